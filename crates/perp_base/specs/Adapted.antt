@@ -1,0 +1,11 @@
+-- What contracts see of an adapter over a reader or a writer of std. This project's own.
+use Rattle.std.specs.Prelude.{ℕ}
+
+-- the reader or writer, and how many of the calls have failed
+pub record Adapted (I : Type 0) : Type 0 where
+  pub inner : I
+  pub faults : ℕ
+
+-- the adapter before its first call
+abbrev pub adapted : {I : Type 0} → I → Adapted I
+adapted inner = record { inner = inner; faults = 0 }
