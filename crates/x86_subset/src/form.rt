@@ -1,0 +1,296 @@
+// The forms that tokens may have.
+ghost use Rattle.std.specs.Prelude.{ℕ, List, ◌≡◌, ◌==◌, ◌≤◌, ◌<◌, ◌+◌, ◌-◌, ◌^◌, length, take, drop, map, min, Result, Ok, Err, Some, None, option_map};
+ghost use Rattle.std.specs.List.{list_all, zip};
+ghost use Rattle.x86_subset.specs.Form.{is, is_keyword, kind_code, capital, register_of, letters, value, value_of, spells, fill, may_miss, fit, lexeme_of, lexemes, found_of, nothing_found, nothing_at, whole, Fills, fill_first, Gives};
+
+use crate::instr::Reg;
+use crate::token::{Token, TokenKind};
+
+/// A run of neighbouring items, from `from` up to and without `to`: bytes of a text, or atoms of a condition.
+#[derive(Clone, Copy, Debug, PartialEq, Eq)]
+pub struct Span {
+    pub from: u32,
+    pub to: u32,
+}
+
+/// A mnemonic.
+#[derive(Clone, Copy, PartialEq, Eq)]
+pub enum Keyword {
+    Mov,
+    Mfence,
+    Xchg,
+}
+
+/// What one token may be.
+#[derive(Clone, Copy, PartialEq, Eq)]
+pub enum Slot {
+    /// A token of this kind.
+    Mark(TokenKind),
+    /// A token of this kind, or nothing.
+    Maybe(TokenKind),
+    /// A word in letters of either case.
+    Word(Keyword),
+    /// A name that is no register's.
+    Location,
+    /// A register's name, in letters of either case.
+    Register,
+    /// A number of any size.
+    Any,
+    /// A number of 32 bits.
+    Small,
+    /// A number of 32 bits that names a thread.
+    Thread,
+}
+
+/// What tokens name. A number of more than 32 bits stands as 2^32. What no slot has filled is 0, or `EAX`.
+#[derive(Clone, Copy, PartialEq, Eq)]
+pub struct Found {
+    pub thread: u32,
+    pub location: Span,
+    pub register: Reg,
+    /// The number of a slot `Any`, and that of a slot `Small`.
+    pub number: u64,
+    pub small: u32,
+}
+
+/// The token's bytes in the text.
+pub fn spelled<'a>(bytes: &'a [u8], t: &Token) -> &'a [u8]
+    ensures { result.now ≡ take (t.now.to - t.now.from) (drop t.now.from bytes.now) }
+{
+    let to = (t.to as usize).min(bytes.len());
+    let from = (t.from as usize).min(to);
+    &bytes[from..to]
+}
+
+#[tactic(auto, unfolding(crate::specs::Form::capital))]
+fn capital(b: u8) -> u8
+    ensures { result ≡ capital b }
+{
+    if b'a' <= b && b <= b'z' { b - 32 } else { b }
+}
+
+/// Byte by byte, as far as both go.
+fn matches_word(bytes: &[u8], word: &[u8]) -> bool
+    ensures { result ≡ list_all (λ p. capital p.0 == p.1) (zip bytes.now word.now) }
+{
+    bytes
+        .iter()
+        .zip(word.iter())
+        .all(|(b, w)| capital(*b) == *w)
+}
+
+/// The bytes are the word, in letters of either case.
+fn spells(bytes: &[u8], word: &[u8]) -> bool
+    ensures { result ≡ spells word.now bytes.now }
+{
+    bytes.len() == word.len() && matches_word(bytes, word)
+}
+
+impl Reg {
+    /// The register whose name the bytes spell, in letters of either case; `None` exactly for any other bytes.
+    #[tactic(auto, unfolding(crate::specs::Form::register_of))]
+    pub fn of(bytes: &[u8]) -> Option<Reg>
+        ensures { result ≡ register_of bytes.now }
+    {
+        if spells(bytes, b"EAX") {
+            Some(Reg::Eax)
+        } else if spells(bytes, b"EBX") {
+            Some(Reg::Ebx)
+        } else if spells(bytes, b"ECX") {
+            Some(Reg::Ecx)
+        } else if spells(bytes, b"EDX") {
+            Some(Reg::Edx)
+        } else if spells(bytes, b"ESI") {
+            Some(Reg::Esi)
+        } else if spells(bytes, b"EDI") {
+            Some(Reg::Edi)
+        } else {
+            None
+        }
+    }
+}
+
+fn letters(word: Keyword) -> &'static [u8]
+    ensures { result.now ≡ letters word }
+{
+    match word {
+        Keyword::Mov => b"MOV",
+        Keyword::Mfence => b"MFENCE",
+        Keyword::Xchg => b"XCHG",
+    }
+}
+
+/// The value of digits, or 2^32 for any larger one.
+fn value(digits: &[u8]) -> u64
+    ensures { result ≡ value_of digits.now }
+{
+    let mut value = 0;
+    for b in digits {
+        value = (value * 10 + b.saturating_sub(48) as u64).min(1 << 32);
+    }
+    value
+}
+
+/// Whether the token has this kind.
+pub fn is(kind: TokenKind, t: &Token) -> bool
+    ensures { result ≡ (kind_code t.now.kind == kind_code kind) }
+{
+    t.kind as u8 == kind as u8
+}
+
+/// Whether the token is the mnemonic, in letters of either case.
+pub fn is_keyword(bytes: &[u8], word: Keyword, t: &Token) -> bool
+    ensures { result ≡ is_keyword word (lexeme_of bytes.now t.now) }
+{
+    is(TokenKind::Name, t) && spells(spelled(bytes, t), letters(word))
+}
+
+impl Slot {
+    /// What is found once the token fills the slot; `None` where it does not fit.
+    #[tactic(auto, unfolding(crate::specs::Form::fill))]
+    pub fn fill(self, bytes: &[u8], t: &Token, found: Found) -> Option<Found>
+        ensures { Fills bytes.now result (fill self (lexeme_of bytes.now t.now) (found_of bytes.now found)) }
+    {
+        match self {
+            Slot::Mark(kind) | Slot::Maybe(kind) => if is(kind, t) { Some(found) } else { None },
+            Slot::Word(word) => if is_keyword(bytes, word, t) {
+                Some(found)
+            } else {
+                None
+            },
+            Slot::Location => if is(TokenKind::Name, t) && Reg::of(spelled(bytes, t)).is_none() {
+                Some(Found {
+                    location: Span {
+                        from: t.from,
+                        to: t.to,
+                    },
+                    ..found
+                })
+            } else {
+                None
+            },
+            Slot::Register => {
+                if !is(TokenKind::Name, t) {
+                    return None;
+                }
+                match Reg::of(spelled(bytes, t)) {
+                    None => None,
+                    Some(register) => Some(Found { register, ..found }),
+                }
+            }
+            Slot::Any => if is(TokenKind::Number, t) {
+                Some(Found {
+                    number: value(spelled(bytes, t)),
+                    ..found
+                })
+            } else {
+                None
+            },
+            Slot::Small => {
+                if !is(TokenKind::Number, t) {
+                    return None;
+                }
+                let small = value(spelled(bytes, t));
+                if small < 1 << 32 {
+                    Some(Found {
+                        small: small as u32,
+                        ..found
+                    })
+                } else {
+                    None
+                }
+            }
+            Slot::Thread => {
+                if !is(TokenKind::Number, t) {
+                    return None;
+                }
+                let thread = value(spelled(bytes, t));
+                if thread < 1 << 32 {
+                    Some(Found {
+                        thread: thread as u32,
+                        ..found
+                    })
+                } else {
+                    None
+                }
+            }
+        }
+    }
+
+    /// Whether the slot may stay empty.
+    pub fn may_miss(self) -> bool
+        ensures { result ≡ may_miss self }
+    {
+        matches!(self, Slot::Maybe(_))
+    }
+
+    /// Fills the slot with the first of the tokens, if it fits.
+    fn fill_first<'a>(
+        self,
+        bytes: &[u8],
+        tokens: &'a [Token],
+        found: Found,
+    ) -> Option<(Found, &'a [Token])>
+        ensures { fill_first self (lexemes bytes.now tokens.now) (found_of bytes.now found) ≡ option_map (λ x. (found_of bytes.now x.0, lexemes bytes.now x.1.now)) result }
+    {
+        match tokens {
+            [] => None,
+            [t, rest @ ..] => match self.fill(bytes, t, found) {
+                None => None,
+                Some(more) => Some((more, rest)),
+            },
+        }
+    }
+}
+
+impl Found {
+    /// Nothing is found yet.
+    pub fn nothing() -> Found
+        ensures { result ≡ nothing_at }
+    {
+        Found {
+            thread: 0,
+            location: Span { from: 0, to: 0 },
+            register: Reg::Eax,
+            number: 0,
+            small: 0,
+        }
+    }
+}
+
+/// Fills the slots with tokens in order. `Ok` is what was found, and the tokens behind; `Err` is the tokens
+/// from the first on that does not fit.
+pub fn fit<'a>(
+    bytes: &[u8],
+    slots: &[Slot],
+    tokens: &'a [Token],
+) -> Result<(Found, &'a [Token]), &'a [Token]>
+    ensures { Gives (λ x. (found_of bytes.now x.0, lexemes bytes.now x.1.now)) (λ e. lexemes bytes.now e.now) result (fit slots.now (lexemes bytes.now tokens.now) nothing_found) }
+{
+    let mut found = Found::nothing();
+    let mut rest = tokens;
+    for slot in slots {
+        match slot.fill_first(bytes, rest, found) {
+            Some((more, behind)) => {
+                found = more;
+                rest = behind;
+            }
+            None => {
+                if !slot.may_miss() {
+                    return Err(rest);
+                }
+            }
+        }
+    }
+    Ok((found, rest))
+}
+
+/// What is found where all of the tokens fill the slots in order; `None` where they do not.
+pub fn whole(bytes: &[u8], slots: &[Slot], tokens: &[Token]) -> Option<Found>
+    ensures { Fills bytes.now result (whole (fit slots.now (lexemes bytes.now tokens.now) nothing_found)) }
+{
+    match fit(bytes, slots, tokens) {
+        Ok((found, rest)) => if rest.is_empty() { Some(found) } else { None },
+        Err(_) => None,
+    }
+}
