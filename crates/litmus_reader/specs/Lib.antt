@@ -1,0 +1,11 @@
+pub mod Answer
+pub mod Front
+pub mod Initial
+pub mod Rows
+pub mod Condition
+pub mod Nesting
+pub mod Reading
+pub mod Answered
+pub mod Outcome
+pub mod Sheet
+pub mod Draft
