@@ -1,0 +1,3 @@
+pub mod KeptKinds
+pub mod KindLemmas
+pub mod Reading
