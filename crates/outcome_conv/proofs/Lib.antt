@@ -1,0 +1,10 @@
+pub mod Agree
+pub mod Choose
+pub mod Converting
+pub mod Counts
+pub mod Examples
+pub mod Last
+pub mod Named
+pub mod Picks
+pub mod Planned
+pub mod Whole

@@ -1,0 +1,115 @@
+//! The condition of an atom.
+ghost use Rattle.std.specs.Prelude.{◌≡◌, ◌<◌, length, slice_get, unwrap_or, Ok};
+ghost use Rattle.x86_subset.specs.Instr.{location_of};
+ghost use Rattle.x86_subset.specs.Shape.{IsTest};
+ghost use Rattle.x86_subset.specs.declared.test.Atom.{Atom};
+ghost use Rattle.seq_conv.specs.Numbers.{AreOf};
+ghost use Rattle.profile_check.specs.Kinds.{kind_of};
+ghost use Rattle.outcome_conv.specs.Conds.{cond_of};
+ghost use Rattle.outcome_conv.specs.Holds.{location_read, reading_places};
+
+use crate::cond::{Cond, CondKind};
+use profile_check::AtomKind;
+use seq_conv::Sequences;
+use x86_subset::{Instr, Test};
+
+/// The location of an action; 0 for a fence, which has none.
+fn location(action: Instr) -> u32
+    ensures { result ≡ unwrap_or (location_of action) 0 }
+{
+    match action {
+        Instr::Store { loc, .. } => loc,
+        Instr::Load { loc, .. } => loc,
+        Instr::Exchange { loc, .. } => loc,
+        Instr::Fence => 0,
+    }
+}
+
+/// The place of the reading action in a column, if the body has that column.
+fn place_read(body: &[Instr], column: u32) -> Option<usize>
+    ensures { result ≡ slice_get (reading_places 0 body.now) column }
+{
+    let mut left = column;
+    for place in 0..body.len() {
+        if body[place].is_reading() {
+            if left == 0 {
+                return Some(place);
+            }
+            left -= 1;
+        }
+    }
+    None
+}
+
+/// The location that a thread reads in a column.
+fn location_read(test: &Test, reader: u32, column: u32) -> u32
+    requires { reader < length test.now.bodies }
+    ensures { result ≡ location_read test.now reader column }
+{
+    let body = test.body(reader as usize);
+    let place = place_read(body, column).unwrap_or(0);
+    match body.get(place) {
+        Some(action) => location(*action),
+        None => 0,
+    }
+}
+
+/// The condition of an atom of this kind.
+pub(crate) fn cond_of(test: &Test, sequences: &Sequences, kind: AtomKind) -> Cond
+    requires test { IsTest test.now }
+    requires sequences { AreOf test.now sequences.now }
+    requires kind { (atom : Atom) × (kind_of test.now atom ≡ Ok kind) }
+    ensures { result ≡ cond_of test.now kind }
+{
+    match kind {
+        AtomKind::Rf {
+            reader,
+            column,
+            writer,
+            place,
+        } => {
+            let loc = location_read(test, reader, column);
+            let k = sequences.stores(loc);
+            let a = sequences.rank(writer as usize, place as usize);
+            Cond {
+                reader,
+                column,
+                loc,
+                writer,
+                kind: CondKind::AtLeast { k, a },
+            }
+        }
+        AtomKind::Fr {
+            reader,
+            column,
+            writer,
+        } => {
+            let loc = location_read(test, reader, column);
+            let k = sequences.stores(loc);
+            Cond {
+                reader,
+                column,
+                loc,
+                writer,
+                kind: CondKind::Below { k },
+            }
+        }
+        AtomKind::Exact {
+            reader,
+            column,
+            writer,
+            place,
+        } => {
+            let loc = location_read(test, reader, column);
+            let k = sequences.stores(loc);
+            let a = sequences.rank(writer as usize, place as usize);
+            Cond {
+                reader,
+                column,
+                loc,
+                writer,
+                kind: CondKind::Exact { k, a },
+            }
+        }
+    }
+}
