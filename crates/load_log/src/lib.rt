@@ -1,0 +1,14 @@
+//! The values that the loads of each thread found, iteration by iteration.
+//!
+//! A log has a fixed number of columns, one for each load of its thread's body, and its room is reserved when it is made. So `Log::put` never
+//! fails and takes no memory: its clause says that exactly one value is appended. `Log::get` gives the value at `n * columns + column`
+//! (its clause `value`), and `specs/Values` says when logs are whole for a number of iterations (`AreWhole`).
+#![tactic(auto)]
+
+mod log;
+mod logs;
+#[cfg(test)]
+mod tests;
+
+pub use log::Log;
+pub use logs::Logs;
