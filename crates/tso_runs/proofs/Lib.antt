@@ -1,0 +1,10 @@
+pub mod Events
+pub mod Examples
+pub mod Fitting
+pub mod Memories
+pub mod Merging
+pub mod OnePart
+pub mod Rest
+pub mod Runs
+pub mod Scheduled
+pub mod Turns
