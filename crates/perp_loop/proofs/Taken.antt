@@ -1,0 +1,296 @@
+-- A walker takes the next turn.
+use Rattle.std.proofs.Common.{◌≡◌, refl, sym, ap, ◌∙◌, subst, ℕ, ◌+◌, ◌*◌, ◌-◌, ◌≤◌, ◌<◌, Bool, true, false, not, if◌then◌else◌, Some, List, [], ◌∷◌, ◌++◌, length, map, take, drop, append_assoc, append-nil, arith}
+use Rattle.std.specs.Prelude.{IsTrue, All, slice_get, count_by}
+use Rattle.std.specs.List.{filter_map}
+use Rattle.std.proofs.lemmas.List.{length-drop, length-append, length-map, length-take-le, take-map, drop-map}
+use Rattle.std.proofs.lemmas.Bool.{false≢true}
+use Rattle.std.proofs.lemmas.List.Sums.{sum_by-cons, sum_by-append}
+use Rattle.std.proofs.lemmas.List.Elements.{All-drop, All-map, All-head, All-tail, filter_map-append}
+use Rattle.x86_subset.specs.Test.{LitmusTest}
+use Rattle.x86_subset.specs.declared.instr.Instr.{Instr}
+use Rattle.x86_subset.specs.declared.instr.Instr.TheVariants.{Store as DoStore, Load as DoLoad, Fence, Exchange}
+use Rattle.seq_conv.specs.Numbers.{Table, value_at}
+use Rattle.x86_subset.specs.Instr.{is_reading}
+use Rattle.x86_subset.specs.Test.{body_of}
+use Rattle.seq_conv.specs.Event.{Event, is_drain}
+use Rattle.seq_conv.specs.Log.{value_read}
+use Rattle.seq_conv.specs.Machine.{Write}
+use Rattle.seq_conv.specs.Part.{Slot, slots_of_loop, Agrees, own_after}
+use Rattle.tso_words.specs.declared.step.Step.{Step}
+use Rattle.tso_words.specs.Appended.{Appends}
+use Rattle.store_buffer.specs.declared.entry.Entry.{Entry}
+use Rattle.store_buffer.specs.Asking.{Asking}
+use Rattle.store_buffer.specs.Contents.{Contents}
+use Rattle.store_buffer.specs.Generator.{asks_drain}
+use Rattle.load_log.specs.Values.{Values}
+use Rattle.tso_runs.specs.declared.options.Options.{Options}
+use Rattle.perp_loop.specs.Actions.{write_from, store_step, AreInRange, IsInRange, entries_after, own_steps, logged, due_before, behind, Makes}
+use Rattle.tso_runs.specs.Drained.{kind_as, drains_due, turns_of, DrainsWhereDue}
+use Rattle.tso_runs.specs.SharedSteps.{shared_steps, steps_of}
+use Rattle.perp_loop.specs.Sound.{drain_event, IsWriteOf, IsPlace, IsSound}
+use Rattle.perp_loop.specs.Walking.{Walking, slots_left, Finishes, buffer_after, actions_in, Takes, StandsFor, IsTurn, TakesTurn}
+use Rattle.tso_runs.specs.Fits.{IsLawful}
+use Rattle.perp_loop.proofs.Finishing.{can_finish}
+use Rattle.perp_loop.proofs.Acted.{at_site, agrees-action, steps-action, buffer-action, own-action, in_range-action, values-event, weight_of_action, empty_behind}
+use Rattle.tso_runs.proofs.Rest.{IsRest}
+use Rattle.perp_loop.proofs.Slots.{left_at}
+use Rattle.perp_loop.proofs.Turn.{store_of, kind_as-not_drain, drains_of, shared_steps-drains, buffer_after-drains, buffer_after-append, values-drains, before_turn, before_last}
+
+-- a walker by its parts
+abbrev pub walking : LitmusTest → Table → Options → ℕ → ℕ → Contents → Values → Walking
+walking test table options t m buffer log = record {
+  test = test;
+  sequences = table;
+  options = options;
+  thread = t;
+  made = m;
+  buffer = map write_from buffer.entries;
+  log = log.values;
+}
+
+pub rest_from_finishes : (w : Walking) (rest : List Event) → Finishes w rest → IsRest w.test w.options w.thread (slots_left w) w.buffer w.made 0 rest
+rest_from_finishes w rest f =
+    let n : length w.buffer ≡ length w.buffer + 0 = omega arith in
+    record { own = f.own; fills = f.performs; keeps = f.keeps; drained = subst (λ n. DrainsWhereDue w.options w.thread w.made n (turns_of rest)) n f.drained }
+
+pub finishes_from_rest : (w : Walking) (rest : List Event) → IsRest w.test w.options w.thread (slots_left w) w.buffer w.made 0 rest → Finishes w rest
+finishes_from_rest w rest r =
+    let n : length w.buffer + 0 ≡ length w.buffer = omega arith in
+    record { own = r.own; performs = r.fills; keeps = r.keeps; drained = subst (λ n. DrainsWhereDue w.options w.thread w.made n (turns_of rest)) n r.drained }
+
+-- a walker that stands for the front of a part stands for a longer front when it has taken more
+pub stands_more : (old new : Walking) (front events : List Event) → Takes old events new → (rest : List Event) × Finishes new rest → StandsFor old front → StandsFor new (front ++ events)
+stands_more old new front events t ends s =
+    let test : old.test ≡ new.test = sym (ap (λ (w : Walking). w.test) t.same) in
+    let lawful : (part : List Event) → IsLawful old.test old.options old.thread part → IsLawful new.test new.options new.thread part =
+    λ part l. subst (λ (w : Walking). IsLawful w.test w.options w.thread part) (sym t.same) l in
+    record {
+      made = t.made ∙ ap (λ n. n + actions_in events) s.made ∙ sym (sum_by-append (λ e. if not (is_drain e) then 1 else 0) front events);
+      buffer = t.buffer ∙ ap (λ ws. buffer_after old.test ws events) s.buffer ∙ sym (buffer_after-append old.test [] front events)
+          ∙ ap (λ t. buffer_after t [] (front ++ events)) test;
+      log = t.log ∙ ap (λ vs. vs ++ filter_map value_read events) s.log ∙ sym (filter_map-append value_read front events);
+      leads = λ rest f. lawful ((front ++ events) ++ rest) (subst (IsLawful old.test old.options old.thread) (sym (append_assoc front events rest)) (s.leads (events ++ rest) (t.leads rest f)));
+      ends = ends;
+    }
+
+-- every walker can be finished
+pub can_end : (test : LitmusTest) (table : Table) (options : Options) (t m : ℕ) (buffer : Contents) (log : Values) → 1 ≤ options.buffer →
+    All (λ e. IsWriteOf test t (write_from e)) buffer.entries → (rest : List Event) × Finishes (walking test table options t m buffer log) rest
+can_end test table options t m buffer log low own =
+    let r = can_finish test options t (drop m (slots_of_loop (body_of test t) options.iterations)) (map write_from buffer.entries) m low (All-map (IsWriteOf test t) write_from buffer.entries own) in
+    (r.0, finishes_from_rest (walking test table options t m buffer log) r.0 r.1)
+
+stores-writes : (es : List Entry) → map store_of (map write_from es) ≡ map store_step es
+stores-writes [] = refl
+stores-writes (e ∷ es) = ap (λ xs. store_step e ∷ xs) (stores-writes es)
+
+no_actions : (t : ℕ) (ws : List Write) → actions_in (drains_of t ws) ≡ 0
+no_actions t [] = refl
+no_actions t (w ∷ ws) = sum_by-cons (λ e. if not (is_drain e) then 1 else 0) (drain_event t w) (drains_of t ws) ∙ omega (arith, no_actions t ws)
+
+one_action : (e : Event) → is_drain e ≡ false → actions_in (e ∷ []) ≡ 1
+one_action e h = ap (λ b. 0 + (if not b then 1 else 0)) h
+
+drains_are_drains : (t : ℕ) (ws : List Write) → All (λ d. is_drain d ≡ true) (drains_of t ws)
+drains_are_drains t ws = All-map (λ d. is_drain d ≡ true) (drain_event t) ws (λ k d h. refl)
+
+module _ {P : Type 0} (steps : P → List Step) (ready : P → ℕ → Type 0) (kept : P → P → Type 0) where
+  pub takes_action :
+      (test : LitmusTest) (table : Table) (options : Options) (t i p m' : ℕ) (drains : Asking) (buffer buffer' : Contents) (log log' : Values) (port port' : P) (action : Instr) (asks : Bool) →
+      IsSound test table options t i p drains buffer log → i < options.iterations → slice_get (body_of test t) p ≡ Some action →
+      asks ≡ asks_drain options.seed t options.rate (i * length (body_of test t) + p) → m' ≡ i * length (body_of test t) + p + 1 →
+      Makes steps ready kept action (value_at table t p i) i p asks buffer log port buffer' log' port' →
+      TakesTurn steps ready kept (walking test table options t (i * length (body_of test t) + p) buffer log) port (walking test table options t m' buffer' log') port'
+  takes_action test table options t i p m' drains buffer buffer' log log' port port' action asks sound below at asked further makes =
+      let body = body_of test t in
+      let slots = slots_of_loop body options.iterations in
+      let m = i * length body + p in
+      let es = buffer.entries in
+      let writes = map write_from es in
+      let d = due_before action asks buffer in
+      let v = makes.read in
+      let e = at_site test table t i p sound.numbers action v in
+      let turn = drains_of t (take d writes) ++ e ∷ [] in
+      let slot : Slot = record { iteration = i; place = p; action = action } in
+      let left : drop m slots ≡ slot ∷ drop (m + 1) slots = left_at body options.iterations i p action below at in
+      let left' : drop m' slots ≡ drop (m + 1) slots = ap (λ k. drop k slots) further in
+      let few : d ≤ length writes = omega (arith, makes.few, length-map es write_from) in
+      let own : All (IsWriteOf test t) writes = All-map (IsWriteOf test t) write_from es sound.own in
+      let drop_w : drop d writes ≡ map write_from (drop d es) = drop-map write_from d es in
+      let took : take d writes ≡ map write_from (take d es) = take-map write_from d es in
+      let agrees : Agrees test (drop d writes) e =
+      subst (λ ws. Agrees test ws e) (sym drop_w) (agrees-action test table t i p sound.numbers action v (drop d es) at makes.newest (empty_behind action asks buffer)) in
+      let buffered : map write_from buffer'.entries ≡ own_after test (drop d writes) e =
+      ap (λ (b : Contents). map write_from b.entries) makes.buffered
+      ∙ buffer-action test table t i p sound.numbers action v (drop d es) at
+      ∙ ap (λ ws. own_after test ws e) (sym drop_w) in
+      let due : d ≡ drains_due (kind_as action 0) options.buffer (asks_drain options.seed t options.rate m) (length writes) =
+      ap (λ c. drains_due (kind_as action 0) c asks (length es)) sound.capacity
+      ∙ ap (λ a. drains_due (kind_as action 0) options.buffer a (length es)) asked
+      ∙ ap (drains_due (kind_as action 0) options.buffer (asks_drain options.seed t options.rate m)) (sym (length-map es write_from)) in
+      let step : map store_step (take d es) ++ own_steps action (value_at table t p i) v (drop d es) ≡ shared_steps test writes turn =
+      ap (λ xs. xs ++ own_steps action (value_at table t p i) v (drop d es)) (sym (ap (map store_of) took ∙ stores-writes (take d es)))
+      ∙ ap (λ ys. map store_of (take d writes) ++ ys)
+      (steps-action test table t i p sound.numbers action v (drop d es) at ∙ ap (λ ws. steps_of test ws e) (sym drop_w) ∙ sym (append-nil (steps_of test (drop d writes) e)))
+      ∙ sym (shared_steps-drains test options t d writes (e ∷ []) few own) in
+      let fewer : length (slots_left (walking test table options t m buffer log)) ≡ length (drop m' slots) + 1 =
+      ap length left ∙ omega (arith, ap length left') in
+      let long : length (shared_steps test writes turn) ≡ d + length (own_steps action (value_at table t p i) v (drop d es)) =
+      sym (ap length step) ∙ simp (length-append, length-map) (ap (λ n. n + length (own_steps action (value_at table t p i) v (drop d es))) (length-take-le d es makes.few)) in
+      let entries : length (map write_from buffer'.entries) ≡ length (entries_after action (value_at table t p i) i p (drop d es)) =
+      length-map buffer'.entries write_from ∙ ap (λ (b : Contents). length b.entries) makes.buffered in
+      let weight = weight_of_action action (value_at table t p i) v i p (drop d es) in
+      let actions : actions_in turn ≡ 1 =
+      sum_by-append (λ e. if not (is_drain e) then 1 else 0) (drains_of t (take d writes)) (e ∷ [])
+      ∙ omega (arith, no_actions t (take d writes), one_action e (kind_as-not_drain action v)) in
+      let takes : Takes (walking test table options t m buffer log) turn (walking test table options t m' buffer' log') = record {
+        same = refl;
+        made = omega (arith, further, actions);
+        buffer = buffered ∙ sym (buffer_after-drains test options t d writes (e ∷ []) few);
+        log = ap (λ (l : Values). l.values) makes.logs ∙ ap (λ vs. log.values ++ vs) (sym (values-drains test options t (take d writes) (e ∷ []) ∙ values-event t i p action v));
+        leads = λ rest f.
+            let r = rest_from_finishes (walking test table options t m' buffer' log') rest f in
+            let r1 : IsRest test options t (drop (m + 1) slots) (own_after test (drop d writes) e) (m + 1) 0 rest =
+            subst (λ k. IsRest test options t (drop (m + 1) slots) (own_after test (drop d writes) e) k 0 rest) further
+            (subst (λ ws. IsRest test options t (drop (m + 1) slots) ws m' 0 rest) buffered
+            (subst (λ ss. IsRest test options t ss (map write_from buffer'.entries) m' 0 rest) left' r)) in
+            let r2 = before_turn test options t slot (drop (m + 1) slots) writes m d v rest due few own agrees r1 in
+            finishes_from_rest (walking test table options t m buffer log) (turn ++ rest) (subst (λ ss. IsRest test options t ss writes m 0 (turn ++ rest)) (sym left) r2);
+      } in
+      let own' : All (λ e. IsWriteOf test t (write_from e)) buffer'.entries =
+      subst (λ (b : Contents). All (λ e. IsWriteOf test t (write_from e)) b.entries) (sym makes.buffered)
+      (own-action test table t i p sound.numbers action (drop d es) at (All-drop (λ e. IsWriteOf test t (write_from e)) d es sound.own)) in
+      let ends = can_end test table options t m' buffer' log' sound.limits.low_buffer own' in
+      record {
+        turn = turn;
+        is_turn = subst (λ ss. IsTurn ss turn) (sym left) (drains_of t (take d writes), e, refl, drains_are_drains t (take d writes), kind_as-not_drain action v);
+        takes = takes;
+        stands = λ front. stands_more (walking test table options t m buffer log) (walking test table options t m' buffer' log') front turn takes ends;
+        can_end = ends;
+        appends = subst (λ xs. Appends steps ready kept port port' xs) step makes.appends;
+        owes_less = omega (arith, fewer, long, entries, weight, length-drop d es, length-map es write_from, makes.few);
+        ends = omega (arith, fewer, long, entries, weight, length-drop d es, length-map es write_from, makes.few);
+      }
+
+  pub takes_last :
+      (test : LitmusTest) (table : Table) (options : Options) (t m capacity : ℕ) (es : List Entry) (buffer' : Contents) (log : Values) (port port' : P) →
+      1 ≤ options.buffer → drop m (slots_of_loop (body_of test t) options.iterations) ≡ [] → All (λ e. IsWriteOf test t (write_from e)) es → (es ≡ [] → ⊥) →
+      buffer' ≡ record { capacity = capacity; entries = drop 1 es } → Appends steps ready kept port port' (map store_step (take 1 es)) →
+      TakesTurn steps ready kept (walking test table options t m (record { capacity = capacity; entries = es }) log) port (walking test table options t m buffer' log) port'
+  takes_last test table options t m capacity [] buffer' log port port' low none own some rest appends = absurd (some refl)
+  takes_last test table options t m capacity (x ∷ xs) buffer' log port port' low none own some rest appends =
+      let slots = drop m (slots_of_loop (body_of test t) options.iterations) in
+      let w = write_from x in
+      let d = drain_event t w in
+      let here : IsWriteOf test t w = All-head (λ e. IsWriteOf test t (write_from e)) x xs own in
+      let buffered : map write_from buffer'.entries ≡ map write_from xs = ap (λ (b : Contents). map write_from b.entries) rest in
+      let step : store_step x ∷ [] ≡ shared_steps test (map write_from (x ∷ xs)) (d ∷ []) = ap (λ u. store_of u ∷ []) (sym here) in
+      let old = walking test table options t m (record { capacity = capacity; entries = x ∷ xs }) log in
+      let new = walking test table options t m buffer' log in
+      let takes : Takes old (d ∷ []) new = record {
+        same = refl;
+        made = omega (arith, no_actions t (w ∷ []));
+        buffer = buffered;
+        log = sym (append-nil log.values);
+        leads = λ more f.
+            let r = rest_from_finishes new more f in
+            let r1 : IsRest test options t [] (map write_from xs) m 0 more =
+            subst (λ ws. IsRest test options t [] ws m 0 more) buffered (subst (λ ss. IsRest test options t ss (map write_from buffer'.entries) m 0 more) none r) in
+            let r2 = before_last test options t w (map write_from xs) m more here r1 in
+            finishes_from_rest old (d ∷ more) (subst (λ ss. IsRest test options t ss (map write_from (x ∷ xs)) m 0 (d ∷ more)) (sym none) r2);
+      } in
+      let own' : All (λ e. IsWriteOf test t (write_from e)) buffer'.entries =
+      subst (λ (b : Contents). All (λ e. IsWriteOf test t (write_from e)) b.entries) (sym rest) (All-tail (λ e. IsWriteOf test t (write_from e)) x xs own) in
+      let ends = can_end test table options t m buffer' log low own' in
+      record {
+        turn = d ∷ [];
+        is_turn = subst (λ ss. IsTurn ss (d ∷ [])) (sym none) (d, refl, refl);
+        takes = takes;
+        stands = λ front. stands_more old new front (d ∷ []) takes ends;
+        can_end = ends;
+        appends = subst (λ xs. Appends steps ready kept port port' xs) step appends;
+        owes_less = omega (arith, ap length buffered);
+        ends = omega (arith, ap length buffered);
+      }
+
+abbrev pub reads : Slot → Bool
+reads slot = is_reading slot.action
+
+counted : (slot : Slot) (slots : List Slot) → count_by reads (slot ∷ slots) ≡ (if reads slot then 1 else 0) + count_by reads slots
+counted slot slots = sum_by-cons (λ s. if reads s then 1 else 0) slot slots
+
+-- a reading action has room in the log
+pub room_now : (i p : ℕ) (action : Instr) (slots : List Slot) (n : ℕ) →
+    count_by reads (record { iteration = i; place = p; action = action } ∷ slots) ≤ n → IsTrue (is_reading action) → 1 ≤ n
+room_now i p (DoStore loc w) slots n h r = absurd (false≢true r)
+room_now i p (DoLoad reg loc) slots n h r = omega (arith, counted (record { iteration = i; place = p; action = DoLoad reg loc }) slots)
+room_now i p Fence slots n h r = absurd (false≢true r)
+room_now i p (Exchange loc w reg) slots n h r = omega (arith, counted (record { iteration = i; place = p; action = Exchange loc w reg }) slots)
+
+room_later : (i p : ℕ) (action : Instr) (v : ℕ) (slots : List Slot) (n : ℕ) →
+    count_by reads (record { iteration = i; place = p; action = action } ∷ slots) ≤ n → count_by reads slots ≤ n - length (logged action v)
+room_later i p (DoStore loc w) v slots n h =
+    let e = counted (record { iteration = i; place = p; action = DoStore loc w }) slots in let goal : count_by reads slots ≤ n - 0 = omega (arith, e) in goal
+room_later i p (DoLoad reg loc) v slots n h =
+    let e = counted (record { iteration = i; place = p; action = DoLoad reg loc }) slots in let goal : count_by reads slots ≤ n - 1 = omega (arith, e) in goal
+room_later i p Fence v slots n h =
+    let e = counted (record { iteration = i; place = p; action = Fence }) slots in let goal : count_by reads slots ≤ n - 0 = omega (arith, e) in goal
+room_later i p (Exchange loc w reg) v slots n h =
+    let e = counted (record { iteration = i; place = p; action = Exchange loc w reg }) slots in let goal : count_by reads slots ≤ n - 1 = omega (arith, e) in goal
+
+pub room_for :
+    (test : LitmusTest) (table : Table) (options : Options) (t i p : ℕ) (drains : Asking) (buffer : Contents) (log : Values) (action : Instr) →
+    IsSound test table options t i p drains buffer log → i < options.iterations → slice_get (body_of test t) p ≡ Some action → IsTrue (is_reading action) → 1 ≤ log.spare
+room_for test table options t i p drains buffer log action sound below at =
+    room_now i p action (drop (i * length (body_of test t) + p + 1) (slots_of_loop (body_of test t) options.iterations)) log.spare
+    (subst (λ ss. count_by reads ss ≤ log.spare) (left_at (body_of test t) options.iterations i p action below at) sound.room)
+
+module _ {P : Type 0} (steps : P → List Step) (ready : P → ℕ → Type 0) (kept : P → P → Type 0) where
+  pub sound_action :
+      (test : LitmusTest) (table : Table) (options : Options) (t i p i' p' : ℕ) (drains drains' : Asking) (buffer buffer' : Contents) (log log' : Values) (port port' : P) (action : Instr) (asks : Bool) →
+      IsSound test table options t i p drains buffer log → i < options.iterations → slice_get (body_of test t) p ≡ Some action → IsInRange action →
+      drains' ≡ record drains { taken = drains.taken + 1 } →
+      i' * length (body_of test t) + p' ≡ i * length (body_of test t) + p + 1 → IsPlace options.iterations (length (body_of test t)) i' p' →
+      Makes steps ready kept action (value_at table t p i) i p asks buffer log port buffer' log' port' →
+      IsSound test table options t i' p' drains' buffer' log'
+  sound_action test table options t i p i' p' drains drains' buffer buffer' log log' port port' action asks sound below at range next further place makes =
+      let body = body_of test t in
+      let slots = slots_of_loop body options.iterations in
+      let m = i * length body + p in
+      let asking : ℕ → Asking = λ n. record { seed = options.seed; thread = t; rate = options.rate; taken = n } in
+      let left : drop m slots ≡ record { iteration = i; place = p; action = action } ∷ drop (m + 1) slots = left_at body options.iterations i p action below at in
+      let room : count_by reads (drop (m + 1) slots) ≤ log.spare - length (logged action makes.read) =
+      room_later i p action makes.read (drop (m + 1) slots) log.spare (subst (λ ss. count_by reads ss ≤ log.spare) left sound.room) in
+      record {
+        is_test = sound.is_test;
+        thread = sound.thread;
+        limits = sound.limits;
+        numbers = sound.numbers;
+        place = place;
+        asking = next ∙ ap {B = Asking} (λ (a : Asking). record a { taken = a.taken + 1 }) sound.asking ∙ ap asking (sym further);
+        capacity = ap (λ (b : Contents). b.capacity) makes.buffered ∙ sound.capacity;
+        in_range = subst (λ (b : Contents). AreInRange b.entries) (sym makes.buffered)
+            (in_range-action test table t i p sound.numbers action (behind action asks buffer) range (All-drop (λ e. e.loc < 16) (due_before action asks buffer) buffer.entries sound.in_range));
+        own = subst (λ (b : Contents). All (λ e. IsWriteOf test t (write_from e)) b.entries) (sym makes.buffered)
+            (own-action test table t i p sound.numbers action (behind action asks buffer) at (All-drop (λ e. IsWriteOf test t (write_from e)) (due_before action asks buffer) buffer.entries sound.own));
+        columns = ap (λ (l : Values). l.columns) makes.logs ∙ sound.columns;
+        room = subst (λ n. count_by reads (drop n slots) ≤ log'.spare) (sym further)
+            (subst (λ (l : Values). count_by reads (drop (m + 1) slots) ≤ l.spare) (sym makes.logs) room);
+      }
+
+pub sound_last :
+    (test : LitmusTest) (table : Table) (options : Options) (t i p : ℕ) (drains : Asking) (buffer buffer' : Contents) (log : Values) →
+    IsSound test table options t i p drains buffer log → buffer' ≡ record buffer { entries = drop 1 buffer.entries } → IsSound test table options t i p drains buffer' log
+sound_last test table options t i p drains buffer buffer' log sound rest = record {
+  is_test = sound.is_test;
+  thread = sound.thread;
+  limits = sound.limits;
+  numbers = sound.numbers;
+  place = sound.place;
+  asking = sound.asking;
+  capacity = ap (λ (b : Contents). b.capacity) rest ∙ sound.capacity;
+  in_range = subst (λ (b : Contents). AreInRange b.entries) (sym rest) (All-drop (λ e. e.loc < 16) 1 buffer.entries sound.in_range);
+  own = subst (λ (b : Contents). All (λ e. IsWriteOf test t (write_from e)) b.entries) (sym rest) (All-drop (λ e. IsWriteOf test t (write_from e)) 1 buffer.entries sound.own);
+  columns = sound.columns;
+  room = sound.room;
+}

@@ -1,0 +1,13 @@
+use Rattle.std.proofs.Common.{◌≡◌, ℕ, ◌<◌, ◌≤◌, length, slice_index_or}
+use Rattle.perp_loop.specs.Crews.{Placed}
+use Rattle.perp_loop.specs.Crews.{IsFresh, IsLent, Lends, SameWalkers}
+use Rattle.perp_loop.proofs.threads.lend_all.Given as goal
+
+abbrev pub invariant-loop-i : goal.invariant-loop-i
+invariant-loop-i l = record {
+  same : SameWalkers l.fn.places l.places;
+  identity : l.home.identity ≡ l.words;
+  home : Lends l.i l.home.parts;
+  lent : (k : ℕ) (d : Placed) → k < l.i → IsLent l.words k (slice_index_or l.places k d);
+  fresh : (k : ℕ) (d : Placed) → l.i ≤ k → k < length l.places → IsFresh k (slice_index_or l.places k d);
+}

@@ -1,0 +1,5 @@
+pub mod Actions
+pub mod Crews
+pub mod Replaying
+pub mod Sound
+pub mod Walking

@@ -1,0 +1,43 @@
+-- What is true of every walker.
+use Rattle.std.specs.Prelude.{◌≡◌, ℕ, ◌+◌, ◌*◌, ◌<◌, ◌≤◌, All, length, drop, count_by}
+use Rattle.x86_subset.specs.Test.{LitmusTest}
+use Rattle.seq_conv.specs.Numbers.{Table, AreOf}
+use Rattle.x86_subset.specs.Instr.{is_reading}
+use Rattle.x86_subset.specs.Shape.{IsTest}
+use Rattle.x86_subset.specs.Test.{body_of}
+use Rattle.seq_conv.specs.Event.{Event, Drain}
+use Rattle.seq_conv.specs.Machine.{Write, write_of}
+use Rattle.seq_conv.specs.Part.{slots_of_loop}
+use Rattle.store_buffer.specs.Asking.{Asking}
+use Rattle.store_buffer.specs.Contents.{Contents}
+use Rattle.load_log.specs.Values.{Values}
+use Rattle.tso_runs.specs.declared.options.Options.{Options}
+use Rattle.tso_runs.specs.Fits.{IsWithinLimits}
+use Rattle.perp_loop.specs.Actions.{write_from, AreInRange}
+
+-- the Drain of a write
+abbrev pub drain_event : ℕ → Write → Event
+drain_event t w = record { thread = t; iteration = w.iteration; place = w.place; kind = Drain }
+
+-- the write is one of thread t
+abbrev pub IsWriteOf : LitmusTest → ℕ → Write → Type 0
+IsWriteOf test t w = write_of test (drain_event t w) ≡ w
+
+-- the next action stands at place p of iteration i, of n iterations of a body of this length; in the end i is n
+pub record IsPlace (n len i p : ℕ) : Type 0 where
+  pub iteration : i ≤ n
+  pub place : i < n → p < len
+  pub last : i ≡ n → p ≡ 0
+
+pub record IsSound (test : LitmusTest) (table : Table) (options : Options) (t i p : ℕ) (drains : Asking) (buffer : Contents) (log : Values) : Type 0 where
+  pub is_test : IsTest test
+  pub thread : t < length test.bodies
+  pub limits : IsWithinLimits options
+  pub numbers : AreOf test table
+  pub place : IsPlace options.iterations (length (body_of test t)) i p
+  pub asking : drains ≡ record { seed = options.seed; thread = t; rate = options.rate; taken = i * length (body_of test t) + p }
+  pub capacity : buffer.capacity ≡ options.buffer
+  pub in_range : AreInRange buffer.entries
+  pub own : All (λ e. IsWriteOf test t (write_from e)) buffer.entries
+  pub columns : log.columns ≡ count_by is_reading (body_of test t)
+  pub room : count_by (λ slot. is_reading slot.action) (drop (i * length (body_of test t) + p) (slots_of_loop (body_of test t) options.iterations)) ≤ log.spare

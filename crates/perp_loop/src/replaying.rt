@@ -1,0 +1,38 @@
+//! All walkers by turns, on a history that is stored.
+ghost use Rattle.std.specs.Prelude.{◌≡◌, ◌≤◌, List, []};
+ghost use Rattle.seq_conv.specs.Event.{Event};
+ghost use Rattle.perp_loop.specs.Crews.{AreLogsOf, AreWholeFor};
+ghost use Rattle.tso_runs.specs.Merging.{history_of};
+ghost use Rattle.perp_loop.specs.Replaying.{owed_by};
+ghost use Rattle.tso_runs.specs.Schedule.{IsScheduled};
+
+use crate::crew::{Crew, logs_of};
+use crate::picks::{MOST_THREADS, first_words, pick};
+use load_log::Logs;
+use tso_runs::Schedule;
+use tso_words::Traced;
+
+/// Makes the run of a schedule: the walkers take turns as it says, until none has one left. The history is stored in room that was
+/// reserved, at least `Crew::owed` steps. It cannot be refused and takes no memory.
+pub fn replay(traced: Traced, crew: Crew<'_>, schedule: Schedule) -> (Traced, Logs)
+    requires empty { traced.history ≡ [] }
+    requires room { owed_by crew ≤ traced.room }
+    ensures made { (run : List Event) × IsScheduled crew.entry.test crew.entry.options schedule run × (result.0.history ≡ history_of crew.entry.test run) × AreLogsOf crew.entry.test run result.1.logs }
+    ensures every { (run : List Event) → IsScheduled crew.entry.test crew.entry.options schedule run → (result.0.history ≡ history_of crew.entry.test run) × AreLogsOf crew.entry.test run result.1.logs }
+    ensures whole { AreWholeFor crew.entry.test crew.entry.options.iterations result.1.logs }
+{
+    let (mut places, logs) = crew.parts();
+    let threads = places.len();
+    let mut traced = traced;
+    let mut playing = [true; MOST_THREADS];
+    let mut generator = first_words(schedule);
+    let mut from = 0;
+    while let Some(t) = pick(schedule, &mut generator, from, &playing, threads) {
+        let place = &mut places[t as usize];
+        let (went, after) = place.turn(traced);
+        traced = after;
+        playing[t as usize] = went.goes_on();
+        from = t + 1;
+    }
+    (traced, logs_of(places, logs))
+}

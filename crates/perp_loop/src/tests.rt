@@ -1,0 +1,334 @@
+// Walkers, replays and threads over worked tests of the locations x and y.
+ghost use Rattle.std.specs.Prelude.{◌≤◌, length};
+ghost use Rattle.x86_subset.specs.Shape.{AreLocated};
+ghost use Rattle.tso_runs.specs.Fits.{IsWithinLimits};
+
+use super::*;
+use load_log::Logs;
+use perp_base::Name;
+use seq_conv::Sequences;
+use std::alloc::Global;
+use std::sync::atomic::{AtomicBool, AtomicU64, Ordering};
+use std::test::Fail;
+use std::thread::Threads;
+use tso_words::{Field, Step, Traced, TracedStep};
+use x86_subset::{Atom, Body, Instr, Quantifier, Reg, Test};
+
+const X: u32 = 0;
+
+const Y: u32 = 1;
+
+const STORE_X: Instr = Instr::Store { loc: X, written: 1 };
+
+const STORE_Y: Instr = Instr::Store { loc: Y, written: 1 };
+
+const SWAP_X: Instr = Instr::Exchange {
+    loc: X,
+    written: 1,
+    reg: Reg::Eax,
+};
+
+const LOAD_X: Instr = Instr::Load {
+    reg: Reg::Eax,
+    loc: X,
+};
+
+const LOAD_Y: Instr = Instr::Load {
+    reg: Reg::Eax,
+    loc: Y,
+};
+
+// How often bodies are performed, at which rate of drains and with which buffers.
+const ONCE: Options = Options {
+    iterations: 1,
+    seed: 0,
+    rate: 0,
+    buffer: 8,
+};
+
+const ONCE_SHORT: Options = Options {
+    iterations: 1,
+    seed: 0,
+    rate: 0,
+    buffer: 1,
+};
+
+const ONCE_DRAINED: Options = Options {
+    iterations: 1,
+    seed: 0,
+    rate: 256,
+    buffer: 8,
+};
+
+const TWICE: Options = Options {
+    iterations: 2,
+    seed: 0,
+    rate: 0,
+    buffer: 8,
+};
+
+const TWICE_DRAINED: Options = Options {
+    iterations: 2,
+    seed: 0,
+    rate: 256,
+    buffer: 8,
+};
+
+const THRICE: Options = Options {
+    iterations: 3,
+    seed: 0,
+    rate: 64,
+    buffer: 8,
+};
+
+// A test of these bodies over x and y.
+fn test_of(alloc: Global, bodies: Vec<Body>) -> Result<Test, Fail>
+    requires some { 1 ≤ length bodies.items }
+    requires located { AreLocated 2 bodies.items }
+{
+    let locations = vec![in alloc; Name::of(alloc, b"x")?, Name::of(alloc, b"y")?]?;
+    let atom = Atom {
+        thread: 0,
+        reg: Reg::Eax,
+        value: 0,
+    };
+    let atoms = vec![in alloc; atom]?;
+    let ends = vec![in alloc; 1]?;
+    let name = Name::of(alloc, b"LOOP")?;
+    let test = Test::new(name, locations, bodies, Quantifier::Exists, atoms, ends)
+        .ok()
+        .ok_or("it is within the limits")?;
+    Ok(test)
+}
+
+// Two stores, and a read of the first.
+fn two_stores(alloc: Global) -> Result<Test, Fail> {
+    let mut body = Body::new(alloc);
+    body.add(STORE_X)?;
+    body.add(STORE_Y)?;
+    body.add(LOAD_X)?;
+    test_of(alloc, vec![in alloc; body]?)
+}
+
+// A store and a read of another location.
+fn store_and_load(alloc: Global) -> Result<Test, Fail> {
+    let mut body = Body::new(alloc);
+    body.add(STORE_X)?;
+    body.add(LOAD_Y)?;
+    test_of(alloc, vec![in alloc; body]?)
+}
+
+// The same with a fence between them.
+fn store_fence_load(alloc: Global) -> Result<Test, Fail> {
+    let mut body = Body::new(alloc);
+    body.add(STORE_X)?;
+    body.add(Instr::Fence)?;
+    body.add(LOAD_Y)?;
+    test_of(alloc, vec![in alloc; body]?)
+}
+
+// The same with an exchange as the store.
+fn swap_and_load(alloc: Global) -> Result<Test, Fail> {
+    let mut body = Body::new(alloc);
+    body.add(SWAP_X)?;
+    body.add(LOAD_Y)?;
+    test_of(alloc, vec![in alloc; body]?)
+}
+
+// Store buffering: each thread stores to one location and reads the other.
+fn store_buffering(alloc: Global) -> Result<Test, Fail> {
+    let mut first = Body::new(alloc);
+    first.add(STORE_X)?;
+    first.add(LOAD_Y)?;
+    let mut second = Body::new(alloc);
+    second.add(STORE_Y)?;
+    second.add(LOAD_X)?;
+    test_of(alloc, vec![in alloc; first, second]?)
+}
+
+// A first thread that stores and fences, and a second one that reads.
+fn write_and_read(alloc: Global) -> Result<Test, Fail> {
+    let mut writer = Body::new(alloc);
+    writer.add(STORE_X)?;
+    writer.add(Instr::Fence)?;
+    let mut reader = Body::new(alloc);
+    reader.add(LOAD_X)?;
+    test_of(alloc, vec![in alloc; writer, reader]?)
+}
+
+fn store(thread: u32, loc: u32, value: u64) -> TracedStep {
+    let step = Step::Store { loc, value };
+    TracedStep { thread, step }
+}
+
+fn load(thread: u32, loc: u32, value: u64) -> TracedStep {
+    let step = Step::Load { loc, value };
+    TracedStep { thread, step }
+}
+
+fn swap(thread: u32, loc: u32, new: u64, old: u64) -> TracedStep {
+    let step = Step::Swap { loc, new, old };
+    TracedStep { thread, step }
+}
+
+// The history of a replay by turns, and its logs.
+fn replayed(alloc: Global, test: &Test, options: &Options) -> Result<(Traced, Logs), Fail>
+    requires { IsWithinLimits options.now }
+{
+    let sequences = Sequences::of(alloc, test)?;
+    let crew = Crew::new(alloc, test, &sequences, options)?;
+    let traced = Traced::reserve(alloc, crew.owed())?;
+    Ok(replay(traced, crew, Schedule::Turns))
+}
+
+// The history has these steps.
+fn made(traced: &Traced, steps: &[TracedStep]) -> bool {
+    traced.steps() == steps
+}
+
+// Thread `t` logged these values.
+fn logged(logs: &Logs, t: usize, values: &[u64]) -> bool {
+    t < logs.len() && logs.at(t).values() == values
+}
+
+#[test]
+fn walkers_make_the_steps_of_their_bodies(rt: HostRuntime) -> Result<(), Fail> {
+    let alloc = rt.alloc();
+    let (full, _) = replayed(alloc, &two_stores(alloc)?, &ONCE_SHORT)?;
+    assert!(rt; made(&full, &[store(0, X, 1), load(0, X, 1), store(0, Y, 1)]));
+    let (forwarded, _) = replayed(alloc, &two_stores(alloc)?, &ONCE)?;
+    assert!(rt; made(&forwarded, &[store(0, X, 1), store(0, Y, 1)]));
+    let (drained, _) = replayed(alloc, &store_and_load(alloc)?, &ONCE_DRAINED)?;
+    assert!(rt; made(&drained, &[store(0, X, 1), load(0, Y, 0)]));
+    let (fenced, _) = replayed(alloc, &store_fence_load(alloc)?, &ONCE)?;
+    assert!(rt; made(&fenced, &[store(0, X, 1), load(0, Y, 0)]));
+    let (swapped, _) = replayed(alloc, &swap_and_load(alloc)?, &ONCE)?;
+    assert!(rt; made(&swapped, &[swap(0, X, 1, 0), load(0, Y, 0)]));
+    Ok(())
+}
+
+#[test]
+fn replays_store_buffering_by_turns(rt: HostRuntime) -> Result<(), Fail> {
+    let alloc = rt.alloc();
+    let test = store_buffering(alloc)?;
+
+    let (traced, logs) = replayed(alloc, &test, &ONCE)?;
+    let steps = [load(0, Y, 0), load(1, X, 0), store(0, X, 1), store(1, Y, 1)];
+    assert!(rt; made(&traced, &steps));
+    assert!(rt; logged(&logs, 0, &[0]) && logged(&logs, 1, &[0]));
+
+    let (_, logs) = replayed(alloc, &test, &TWICE)?;
+    assert!(rt; logged(&logs, 0, &[0, 0]) && logged(&logs, 1, &[0, 0]));
+
+    let (traced, logs) = replayed(alloc, &test, &TWICE_DRAINED)?;
+    let steps = [
+        store(0, X, 1),
+        load(0, Y, 0),
+        store(1, Y, 1),
+        load(1, X, 1),
+        store(0, X, 2),
+        load(0, Y, 1),
+        store(1, Y, 2),
+        load(1, X, 2),
+    ];
+    assert!(rt; made(&traced, &steps));
+    assert!(rt; logged(&logs, 0, &[0, 1]) && logged(&logs, 1, &[1, 2]));
+    Ok(())
+}
+
+// How often a call looks for another one.
+const MOST_LOOKS: u32 = 100000000;
+
+// The iterations of two threads that meet: each call sets its flag, and some wait for the flag of another one.
+#[derive(Drop)]
+struct Meeting {
+    called: [AtomicBool; 6],
+    awaited: [Option<usize>; 6],
+    missed: AtomicU64,
+}
+
+// The place of a call's flag.
+fn call(thread: u32, iteration: u32) -> usize {
+    thread as usize * 3 + iteration as usize
+}
+
+impl Meeting {
+    fn new(awaited: [Option<usize>; 6]) -> Meeting {
+        Meeting {
+            called: [
+                AtomicBool::new(false),
+                AtomicBool::new(false),
+                AtomicBool::new(false),
+                AtomicBool::new(false),
+                AtomicBool::new(false),
+                AtomicBool::new(false),
+            ],
+            awaited,
+            missed: AtomicU64::new(0),
+        }
+    }
+
+    fn is_called(&self, call: usize) -> bool {
+        match self.called.get(call) {
+            Some(flag) => flag.load(Ordering::SeqCst),
+            None => false,
+        }
+    }
+
+    // All calls came, and none was missed.
+    fn is_passed(&self) -> bool {
+        for call in 0..6 {
+            if !self.is_called(call) {
+                return false;
+            }
+        }
+        self.missed.load(Ordering::SeqCst) == 0
+    }
+
+    // Looks for a call until it has come; a look that never finds it is counted.
+    fn look_for(&self, call: usize) {
+        for _ in 0..MOST_LOOKS {
+            if self.is_called(call) {
+                return;
+            }
+        }
+        self.missed.fetch_add(1, Ordering::SeqCst);
+    }
+}
+
+impl Gate for Meeting {
+    fn before(&self, thread: u32, iteration: u32) {
+        let call = call(thread, iteration);
+        if let Some(flag) = self.called.get(call) {
+            flag.store(true, Ordering::SeqCst);
+        }
+        if let Some(Some(other)) = self.awaited.get(call) {
+            self.look_for(*other);
+        }
+    }
+}
+
+// The logs of three iterations of two threads that meet.
+fn met<R: Threads + Sync>(rt: &R, alloc: Global, gate: &Meeting) -> Result<Logs, Fail> {
+    let test = write_and_read(alloc)?;
+    let sequences = Sequences::of(alloc, &test)?;
+    let crew = Crew::new(alloc, &test, &sequences, &THRICE)?;
+    let (_, logs) = run_threads(rt, Field::new(alloc)?, crew, gate);
+    Ok(logs)
+}
+
+#[test]
+fn threads_run_beside_one_another(rt: HostRuntime) -> Result<(), Fail> {
+    // The first thread awaits the next iteration of the second one, and the second one the same iteration of the first one.
+    let gate = Meeting::new([Some(4), Some(5), None, None, Some(1), Some(2)]);
+    let logs = met(&rt, rt.alloc(), &gate)?;
+    assert!(rt; logged(&logs, 1, &[0, 1, 2]) || logged(&logs, 1, &[0, 1, 3]));
+    assert!(rt; gate.is_passed());
+
+    // The second thread begins when the first one has done two iterations, and the first one awaits the last iteration of the second.
+    let gate = Meeting::new([None, None, Some(5), Some(2), None, None]);
+    let logs = met(&rt, rt.alloc(), &gate)?;
+    assert!(rt; logged(&logs, 1, &[2, 2, 2]) || logged(&logs, 1, &[2, 2, 3]));
+    assert!(rt; gate.is_passed());
+    Ok(())
+}
