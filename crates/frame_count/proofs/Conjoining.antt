@@ -1,0 +1,23 @@
+-- The conjunctions from one on.
+use Rattle.std.proofs.Common.{◌≡◌, ℕ, suc, ◌+◌, ◌-◌, ◌<◌, ◌||◌, ◌∙◌, Bool, false, List, [], ◌∷◌, length, map, sym, ap, arith}
+use Rattle.std.specs.List.{list_any, range_with_len}
+use Rattle.x86_subset.specs.Conjunctions.{conjunction_of, conjunctions_of}
+
+abbrev pub rest_of : {A : Type 0} → List ℕ → List A → ℕ → List (List A)
+rest_of ends xs c = map (conjunction_of ends xs) (range_with_len c (length ends - c))
+
+pub rest_next : {A : Type 0} (ends : List ℕ) (xs : List A) (c : ℕ) → c < length ends → rest_of ends xs c ≡ conjunction_of ends xs c ∷ rest_of ends xs (c + 1)
+rest_next ends xs c lt = let e : length ends - c ≡ suc (length ends - (c + 1)) = omega arith in ap (λ n. map (conjunction_of ends xs) (range_with_len c n)) e
+
+pub rest_end : {A : Type 0} (ends : List ℕ) (xs : List A) (c : ℕ) → c ≡ length ends → rest_of ends xs c ≡ []
+rest_end ends xs c h = let e : length ends - c ≡ 0 = omega arith in ap (λ n. map (conjunction_of ends xs) (range_with_len c n)) e
+
+-- the first are all
+pub rest_first : {A : Type 0} (ends : List ℕ) (xs : List A) → conjunctions_of ends xs ≡ rest_of ends xs 0
+rest_first ends xs = let e : length ends ≡ length ends - 0 = omega arith in ap (λ n. map (conjunction_of ends xs) (range_with_len 0 n)) e
+
+-- behind a conjunction that does not pass
+pub any_next : {A : Type 0} (p : List A → Bool) (ends : List ℕ) (xs : List A) (c : ℕ) (group : List A) (whole : Bool)
+    → c < length ends → group ≡ conjunction_of ends xs c → p group ≡ false → list_any p (rest_of ends xs c) ≡ whole → list_any p (rest_of ends xs (c + 1)) ≡ whole
+any_next p ends xs c group whole lt e none h =
+    sym (ap (list_any p) (rest_next ends xs c lt) ∙ ap (λ b. b || list_any p (rest_of ends xs (c + 1))) (ap p (sym e) ∙ none)) ∙ h

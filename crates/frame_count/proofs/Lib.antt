@@ -1,0 +1,10 @@
+pub mod Along
+pub mod Conjoining
+pub mod Counts
+pub mod Cuts
+pub mod Digits
+pub mod LogsOfRuns
+pub mod Masks
+pub mod PairsOfLogs
+pub mod Sides
+pub mod Thresholds

@@ -1,0 +1,4 @@
+pub mod Count
+pub mod RunLogs
+pub mod Sides
+pub mod TwoLogs

@@ -1,0 +1,26 @@
+//! The exhaustive counter: at how many frames the conditions of a test hold of its logs.
+//!
+//! `count` goes through all frames, cut into pieces that `rayon` shares among threads. Its clause says that the result
+//! is `count_of` of `outcome_conv` over the logged values, whatever the cut. `row_count` counts the frames that differ in
+//! the last thread's iteration alone, sixty-four at once, and `holds` tells of one frame; theirs are counts and values of
+//! `conds_hold`. `frames` and `frame_of` number the frames.
+//!
+//! What that means for the logs of a run is said by the laws of `specs/RunLogs`: the count is the number of hits of the
+//! run (`counts_are_hits`), that of a row the number of its hits (`rows_count_hits`), and what `outcome_conv` says of the
+//! values of a run holds of the logs (`logs_give_the_values`), which meet what the calls ask (`logs_meet_the_conditions`).
+#![tactic(auto)]
+
+mod at_frame;
+mod lanes;
+mod laws;
+mod numbers;
+mod pieces;
+mod row;
+#[cfg(test)]
+mod tests;
+
+pub use at_frame::holds;
+pub use laws::{counts_are_hits, logs_give_the_values, logs_meet_the_conditions, rows_count_hits};
+pub use numbers::{MOST_FRAMES, frame_of, frames};
+pub use pieces::count;
+pub use row::row_count;
