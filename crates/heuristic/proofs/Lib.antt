@@ -1,0 +1,5 @@
+pub mod Along
+pub mod Finds
+pub mod Groups
+pub mod OfRuns
+pub mod Ordered
