@@ -1,0 +1,6 @@
+mod Numbers
+mod Rows
+mod Turns
+mod Parse
+mod JobLemmas
+mod CommandLemmas

@@ -1,0 +1,18 @@
+-- What a job asks for, and the limits of its numbers. This project's own.
+use Rattle.std.specs.Prelude.{ℕ, ◌≤◌, Option}
+use Rattle.tso_runs.specs.declared.options.Options.{Options}
+use Rattle.tso_runs.specs.Fits.{IsWithinLimits}
+use Rattle.command_words.specs.declared.job.Count.{Count}
+
+-- a job, as contracts see it
+pub record Asked : Type 0 where
+  pub options : Options
+  pub count : Count
+  pub cut : ℕ
+  pub order : Option ℕ
+
+-- the limits of a job's numbers
+pub record IsWithin (options : Options) (cut : ℕ) : Type 0 where
+  pub run : IsWithinLimits options
+  pub low_cut : 1 ≤ cut
+  pub high_cut : cut ≤ 65536

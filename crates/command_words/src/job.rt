@@ -1,0 +1,62 @@
+//! Jobs, and the commands that ask for them.
+use std::marker::Model;
+use tso_runs::Options;
+
+/// How the hits of a run are counted.
+#[derive(Clone, Copy, Debug, PartialEq, Eq)]
+pub enum Count {
+    /// Each frame is looked at.
+    Exhaustive,
+    /// One frame is picked for each iteration of the base thread.
+    Heuristic,
+    /// Both counts are made.
+    Both,
+}
+
+/// What `run` and `replay` are asked for. Each of its numbers lies within its limits (`IsWithin`).
+#[derive(Clone, Copy, Debug, PartialEq, Eq)]
+pub struct Job {
+    /// How the run is made: 1 to 100,000 iterations, a rate of 0 to 256, a buffer of 1 to 16.
+    pub options: Options,
+    /// How hits are counted.
+    pub count: Count,
+    /// Into how many pieces the exhaustive count cuts the frames, 1 to 65,536.
+    pub cut: u32,
+    /// The seed of a replay's schedule. Where there is none the threads take turns, as in each `run`.
+    pub order: Option<u64>,
+}
+
+impl Model for Job {
+    ghost use Rattle.command_words.specs.Job.{Asked, IsWithin};
+
+    ghost Value = { Asked };
+
+    ghost view = { λ j. record {
+      options = j.options;
+      count = j.count;
+      cut = j.cut;
+      order = j.order;
+    } };
+
+    ghost inverse = { λ a. record {
+      options = a.options;
+      count = a.count;
+      cut = a.cut;
+      order = a.order;
+    } };
+
+    ghost invariant = { λ j. IsWithin j.options j.cut };
+}
+
+/// A command of the program.
+#[derive(Clone, Copy, Debug, PartialEq, Eq)]
+pub enum Command {
+    /// Run the test that is read, in threads.
+    Run(Job),
+    /// Run the test that is read by a schedule, one thread at a time.
+    Replay(Job),
+    /// Show what the test that is read is converted to.
+    Convert,
+    /// Replay the text of this number.
+    Demo(u64),
+}

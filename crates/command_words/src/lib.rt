@@ -1,0 +1,15 @@
+//! The words of the command line. `read_words` reads them, those of `run` and `replay` by clap: an answer is the command that the
+//! definition `command_of` gives for the words (clause `ok`), and the words are refused as misused only where it gives none
+//! (clause `usage`). Each `Job` keeps that its numbers lie within their limits (`IsWithin`).
+#![tactic(auto)]
+
+mod job;
+mod reading;
+mod values;
+
+pub use job::{Command, Count, Job};
+pub use reading::{WordsError, read_words};
+pub use tso_runs::Options;
+
+#[cfg(test)]
+mod tests;

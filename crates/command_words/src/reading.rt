@@ -1,0 +1,172 @@
+//! The words are read, those of `run` and `replay` by clap.
+ghost use Rattle.std.specs.Prelude.{◌≡◌, ◌<◌, [], false, codes, drop, length, IfOk, map, string_bytes, MatchResult};
+ghost use Rattle.std.specs.List.{list_any};
+ghost use Rattle.clap.specs.Words.{app_of, first_value, found_of};
+ghost use Rattle.clap.specs.Walk.{rule_of, texts};
+ghost use Rattle.command_words.specs.Clap.{app_for, option_arg};
+ghost use Rattle.command_words.specs.Words.{command_of, convert_in, demo_in, is_among, is_stray, job_in, job_of};
+
+use crate::job::{Command, Count, Job};
+use crate::values::{count_or, number, number_or, order_in, read_within, within_or};
+use clap::error::ErrorKind;
+use clap::{Arg, ArgMatches};
+use std::alloc::{AllocError, Global};
+use tso_runs::Options;
+
+/// Why the words give no command.
+#[derive(Clone, Copy, Debug, PartialEq, Eq)]
+pub enum WordsError {
+    /// The words are none of the commands.
+    Usage,
+    /// Memory was refused.
+    Memory,
+}
+
+/// The job of the values that clap found.
+fn job_from(matches: &ArgMatches) -> Option<Job>
+    ensures { result ≡ job_of (first_value (found_of matches.now)) }
+{
+    let iterations = read_within(matches.get_str("N")?, 1, 100_000)?;
+    let seed = number_or(matches.get_str("seed"), 0)?;
+    let rate = within_or(matches.get_str("rate"), 64, 0, 256)?;
+    let buffer = within_or(matches.get_str("buffer"), 8, 1, 16)?;
+    let count = count_or(matches.get_str("count"), Count::Exhaustive)?;
+    let cut = within_or(matches.get_str("cut"), 4096, 1, 65536)?;
+    let order = order_in(matches.get_str("order"))?;
+    Some(Job {
+        options: Options {
+            iterations,
+            seed,
+            rate,
+            buffer,
+        },
+        count,
+        cut,
+        order,
+    })
+}
+
+/// The word begins with a hyphen and is no option, as `--`, `-` and `-h`.
+fn is_stray_word(word: &str) -> bool
+    ensures { result ≡ is_stray word.now }
+{
+    word.starts_with('-') && !(word.len() > 2 && word.starts_with("--"))
+}
+
+/// Such a word is among these.
+fn has_stray_word(words: &[String]) -> bool
+    ensures { result ≡ list_any (λ w. is_stray (string_bytes w)) words.now }
+{
+    words.iter().any(|word| is_stray_word(word.as_str()))
+}
+
+/// The option `--name`, which takes a value.
+fn option_named<'a>(alloc: Global, name: &'a str) -> Arg<'a>
+    ensures rule { rule_of result ≡ option_arg name.entry.now }
+    ensures local { result.global ≡ false }
+{
+    Arg::new(alloc, name).long(name)
+}
+
+/// The command that takes `N` and no option.
+fn command_named<'a>(alloc: Global, name: &'a str) -> Result<clap::Command<'a>, AllocError>
+    ensures { IfOk result (λ c. app_of c ≡ app_for name.entry.now []) }
+{
+    let count = Arg::new(alloc, "N").required(true);
+    clap::Command::new(alloc, name)
+        .disable_help_flag(true)
+        .arg(count)
+}
+
+/// The command that reads the words after `name`: `N`, and an option of each name.
+fn command_for<'a>(
+    alloc: Global,
+    name: &'a str,
+    names: &[&'a str],
+) -> Result<clap::Command<'a>, AllocError>
+    ensures { IfOk result (λ c. app_of c ≡ app_for name.entry.now (texts names.now)) }
+{
+    let mut command = command_named(alloc, name)?;
+    for option in names {
+        command = command.arg(option_named(alloc, *option))?;
+    }
+    Ok(command)
+}
+
+/// The options of `run`.
+static RUN_NAMES: [&str; 5] = ["seed", "rate", "buffer", "count", "cut"];
+
+/// The options of `replay`.
+static REPLAY_NAMES: [&str; 6] = ["order", "seed", "rate", "buffer", "count", "cut"];
+
+/// Reads the words after the first by clap, with options of these names.
+fn read_job<'a>(alloc: Global, words: &'a [String], names: &[&'a str]) -> Result<Job, WordsError>
+    requires some { 0 < length words.now }
+    requires no_count { is_among (codes "N") (texts names.now) ≡ false }
+    ensures ok { IfOk result (λ job. job_in (texts names.now) (drop 1 (map (λ w. string_bytes w) words.entry.now)) ≡ Some job) }
+    ensures usage { result ≡ Err WordsError.Usage → job_in (texts names.now) (drop 1 (map (λ w. string_bytes w) words.entry.now)) ≡ None }
+{
+    if has_stray_word(&words[1..]) {
+        return Err(WordsError::Usage);
+    }
+    let Ok(command) = command_for(alloc, words[0].as_str(), names) else {
+        return Err(WordsError::Memory);
+    };
+    match command.try_get_matches_from(words) {
+        Ok(matches) => job_from(&matches).ok_or(WordsError::Usage),
+        Err(error) => {
+            if error.kind() == ErrorKind::OutOfMemory {
+                Err(WordsError::Memory)
+            } else {
+                Err(WordsError::Usage)
+            }
+        }
+    }
+}
+
+/// `convert`, where no word follows.
+fn read_convert(words: &[String]) -> Result<Command, WordsError>
+    requires { 0 < length words.now }
+    ensures { MatchResult result (λ c. convert_in (drop 1 (map (λ w. string_bytes w) words.now)) ≡ Some c)
+        (λ e. convert_in (drop 1 (map (λ w. string_bytes w) words.now)) ≡ None) }
+{
+    if words.len() == 1 {
+        Ok(Command::Convert)
+    } else {
+        Err(WordsError::Usage)
+    }
+}
+
+/// `demo`, where one number follows.
+fn read_demo(words: &[String]) -> Result<Command, WordsError>
+    requires { 0 < length words.now }
+    ensures { MatchResult result (λ c. demo_in (drop 1 (map (λ w. string_bytes w) words.now)) ≡ Some c)
+        (λ e. demo_in (drop 1 (map (λ w. string_bytes w) words.now)) ≡ None) }
+{
+    if words.len() != 2 {
+        return Err(WordsError::Usage);
+    }
+    match number(words[1].as_str()) {
+        Some(k) => Ok(Command::Demo(k)),
+        None => Err(WordsError::Usage),
+    }
+}
+
+/// The command that the words after the program's name give. `Usage` comes exactly where they are none of `run N`, `replay N`,
+/// `convert` and `demo K` with their options (`command_of`); that memory is refused may come at any words of `run` and `replay`,
+/// instead of either answer.
+pub fn read_words(alloc: Global, words: &[String]) -> Result<Command, WordsError>
+    ensures ok { IfOk result (λ c. command_of (map (λ w. string_bytes w) words.now) ≡ Some c) }
+    ensures usage { result ≡ Err WordsError.Usage → command_of (map (λ w. string_bytes w) words.now) ≡ None }
+{
+    if words.is_empty() {
+        return Err(WordsError::Usage);
+    }
+    match words[0].as_str() {
+        "run" => Ok(Command::Run(read_job(alloc, words, &RUN_NAMES)?)),
+        "replay" => Ok(Command::Replay(read_job(alloc, words, &REPLAY_NAMES)?)),
+        "convert" => read_convert(words),
+        "demo" => read_demo(words),
+        _ => Err(WordsError::Usage),
+    }
+}

@@ -1,0 +1,124 @@
+use crate::{Command, Count, Job, Options, WordsError, read_words};
+use std::alloc::{AllocError, Global};
+use std::test::Fail;
+
+/// The words of a line, which stand between single spaces.
+fn words_of(alloc: Global, line: &str) -> Result<Vec<String>, AllocError> {
+    let mut words = Vec::new(alloc);
+    for word in line.split(' ') {
+        words.push(String::from_str(alloc, word)?)?;
+    }
+    Ok(words)
+}
+
+fn read(alloc: Global, line: &str) -> Result<Command, WordsError> {
+    match words_of(alloc, line) {
+        Ok(words) => read_words(alloc, words.as_slice()),
+        Err(_) => Err(WordsError::Memory),
+    }
+}
+
+const USUAL: Options = Options {
+    iterations: 5,
+    seed: 0,
+    rate: 64,
+    buffer: 8,
+};
+
+/// Lines that name a command.
+fn commands() -> [(&'static str, Command); 7] {
+    let plain = Job {
+        options: USUAL,
+        count: Count::Exhaustive,
+        cut: 4096,
+        order: None,
+    };
+    let seeded = Job {
+        options: Options { seed: 7, ..USUAL },
+        count: Count::Exhaustive,
+        cut: 1,
+        order: None,
+    };
+    let ordered = Job {
+        options: USUAL,
+        count: Count::Heuristic,
+        cut: 65536,
+        order: Some(18446744073709551615),
+    };
+    let most = Job {
+        options: Options {
+            iterations: 100000,
+            seed: 1,
+            rate: 256,
+            buffer: 16,
+        },
+        count: Count::Both,
+        cut: 4096,
+        order: None,
+    };
+    [
+        ("run 005", Command::Run(plain)),
+        ("replay 5 --count exhaustive", Command::Replay(plain)),
+        ("run --seed=7 5 --cut 1", Command::Run(seeded)),
+        (
+            "replay 5 --order 18446744073709551615 --cut=65536 --count heuristic",
+            Command::Replay(ordered),
+        ),
+        (
+            "run --rate 256 --buffer=16 --count=both --seed 00000000000000000001 100000",
+            Command::Run(most),
+        ),
+        ("convert", Command::Convert),
+        ("demo 0", Command::Demo(0)),
+    ]
+}
+
+/// Lines that name none.
+static REFUSED: [&str; 33] = [
+    "run",
+    "run 0",
+    "run 100001",
+    "run +5",
+    "run -5",
+    "run 5 6",
+    "run 5 --seed 1 --seed 2",
+    "run 5 --seed 1 --seed=1",
+    "run 5 --seed",
+    "run 5 --seed=",
+    "run 5 --seed=1=2",
+    "run 5 --seed --cut 1",
+    "run 5 --see=1",
+    "run 5 --seed=000000000000000000001",
+    "run 5 --seed 18446744073709551616",
+    "run 5 --rate 257",
+    "run 5 --buffer 0",
+    "run 5 --buffer 17",
+    "run 5 --cut 0",
+    "run 5 --cut 65537",
+    "run 5 --count all",
+    "run 5 --order 1",
+    "run -- 5",
+    "run 5 --help",
+    "run -h",
+    "replay 5 --order x",
+    "convert x",
+    "convert --",
+    "demo",
+    "demo 1 2",
+    "demo --",
+    "walk 5",
+    "--help",
+];
+
+#[test]
+fn reads_lines(rt: HostRuntime) -> Result<(), Fail> {
+    let alloc = rt.alloc();
+    for (line, command) in commands() {
+        assert_eq!(rt; read(alloc, line), Ok(command), "{line}");
+    }
+    for line in &REFUSED {
+        assert_eq!(rt; read(alloc, *line), Err(WordsError::Usage), "{line}");
+    }
+    assert_eq!(rt; read_words(alloc, &[]), Err(WordsError::Usage));
+    Ok(())
+}
