@@ -1,0 +1,7 @@
+mod Table
+mod Lines
+mod Codes
+mod AtomKinds
+mod Front
+mod Computed
+pub mod Whole
