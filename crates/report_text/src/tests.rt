@@ -1,0 +1,269 @@
+ghost use Rattle.std.specs.Prelude.{◌≡◌, ◌<◌, All, IfOk};
+ghost use Rattle.std.specs.Str.{IsAscii};
+ghost use Rattle.report_text.specs.Status.{HasKind};
+
+use super::*;
+use perp_base::{Frame, Name, NoMemory};
+use std::alloc::Global;
+use std::process::Abort;
+use std::test::Fail;
+
+// The report of store buffering, each thread's body performed once and both reads of 0.
+const BOTH_COUNTS: &str =
+    "Test SB\nThreads 2\nIterations 1\nCondition exists 2\nFrames 1\nExhaustive 1\nHeuristic 1\nHit 0 0\nSeen yes\n";
+
+const HEURISTIC_ALONE: &str =
+    "Test SB\nThreads 2\nIterations 1\nCondition exists 2\nHeuristic 1\nSeen yes\n";
+
+const NEVER_SEEN: &str =
+    "Test SB\nThreads 2\nIterations 300\nCondition ~exists 2\nFrames 90000\nExhaustive 0\nSeen no\n";
+
+#[test]
+fn a_report_has_the_lines_that_were_asked_for(rt: HostRuntime) -> Result<(), Fail> {
+    let alloc = rt.alloc();
+    let hits = Vec::from_array(alloc, [Frame::filled(2, 0)])?;
+    let mut rows = Report {
+        name: name(&rt, alloc, b"SB")?,
+        threads: 2,
+        iterations: 1,
+        negated: false,
+        atoms: 2,
+        frames: Some(1),
+        exhaustive: Some(1),
+        hits: Some(hits),
+        show_hits: true,
+    };
+    assert_eq!(rt; report(alloc, &rows)?.as_str(), BOTH_COUNTS);
+    rows.show_hits = false;
+    rows.frames = None;
+    rows.exhaustive = None;
+    assert_eq!(rt; report(alloc, &rows)?.as_str(), HEURISTIC_ALONE);
+    rows.hits = None;
+    rows.negated = true;
+    rows.iterations = 300;
+    rows.frames = Some(90000);
+    rows.exhaustive = Some(0);
+    assert_eq!(rt; report(alloc, &rows)?.as_str(), NEVER_SEEN);
+    Ok(())
+}
+
+// An ASCII name.
+fn name(rt: &impl Abort, alloc: Global, bytes: &[u8]) -> Result<Name, NoMemory>
+    ensures { IfOk result IsAscii }
+{
+    let name = Name::of(alloc, bytes)?;
+    assert!(rt; name.bytes().is_ascii());
+    Ok(name)
+}
+
+fn store(
+    rt: &impl Abort,
+    alloc: Global,
+    at: (u32, u32),
+    loc: &[u8],
+    sequence: (u64, u64),
+) -> Result<StoreRow, NoMemory>
+    ensures { IfOk result (λ row. IsAscii row.loc) }
+{
+    let loc = name(rt, alloc, loc)?;
+    Ok(StoreRow {
+        thread: at.0,
+        place: at.1,
+        loc,
+        k: sequence.0,
+        a: sequence.1,
+    })
+}
+
+fn read(
+    rt: &impl Abort,
+    alloc: Global,
+    at: (u32, u32),
+    loc: &[u8],
+    column: u32,
+) -> Result<ReadRow, NoMemory>
+    ensures { IfOk result (λ row. IsAscii row.loc) }
+{
+    let loc = name(rt, alloc, loc)?;
+    Ok(ReadRow {
+        thread: at.0,
+        place: at.1,
+        loc,
+        column,
+    })
+}
+
+// An atom on a location with one store.
+fn atom(form: AtomForm, reader: u32, column: u32, writer: u32) -> AtomRow
+    ensures { result.k ≡ 1 }
+{
+    AtomRow {
+        form,
+        reader,
+        column,
+        writer,
+        k: 1,
+        a: 1,
+    }
+}
+
+// Two threads that store to one location, and one that reads it.
+fn two_writers(rt: &impl Abort, alloc: Global) -> Result<Conversion, NoMemory>
+    ensures name { IfOk result (λ rows. IsAscii rows.name) }
+    ensures stores { IfOk result (λ rows. All (λ row. IsAscii row.loc) rows.stores.items) }
+    ensures reads { IfOk result (λ rows. All (λ row. IsAscii row.loc) rows.reads.items) }
+    ensures sequences { IfOk result (λ rows. All (λ row. 0 < row.k) rows.atoms.items) }
+{
+    let first = store(rt, alloc, (0, 0), b"x", (2, 1))?;
+    let second = store(rt, alloc, (1, 0), b"x", (2, 2))?;
+    let only = read(rt, alloc, (2, 0), b"x", 0)?;
+    let newest = AtomRow {
+        form: AtomForm::Rf,
+        reader: 2,
+        column: 0,
+        writer: 1,
+        k: 2,
+        a: 2,
+    };
+    Ok(Conversion {
+        name: name(rt, alloc, b"W2")?,
+        threads: 3,
+        stores: Vec::from_array(alloc, [first, second])?,
+        reads: Vec::from_array(alloc, [only])?,
+        atoms: Vec::from_array(alloc, [newest])?,
+    })
+}
+
+// Store buffering: each thread stores to one location and reads the other.
+fn store_buffering(rt: &impl Abort, alloc: Global) -> Result<Conversion, NoMemory>
+    ensures name { IfOk result (λ rows. IsAscii rows.name) }
+    ensures stores { IfOk result (λ rows. All (λ row. IsAscii row.loc) rows.stores.items) }
+    ensures reads { IfOk result (λ rows. All (λ row. IsAscii row.loc) rows.reads.items) }
+    ensures sequences { IfOk result (λ rows. All (λ row. 0 < row.k) rows.atoms.items) }
+{
+    let store_x = store(rt, alloc, (0, 0), b"x", (1, 1))?;
+    let store_y = store(rt, alloc, (1, 0), b"y", (1, 1))?;
+    let read_y = read(rt, alloc, (0, 1), b"y", 0)?;
+    let read_x = read(rt, alloc, (1, 1), b"x", 0)?;
+    let atoms = [atom(AtomForm::Fr, 0, 0, 1), atom(AtomForm::Fr, 1, 0, 0)];
+    Ok(Conversion {
+        name: name(rt, alloc, b"SB")?,
+        threads: 2,
+        stores: Vec::from_array(alloc, [store_x, store_y])?,
+        reads: Vec::from_array(alloc, [read_y, read_x])?,
+        atoms: Vec::from_array(alloc, atoms)?,
+    })
+}
+
+// Message passing: one thread stores to two locations, the other reads them in the other order.
+fn message_passing(rt: &impl Abort, alloc: Global) -> Result<Conversion, NoMemory>
+    ensures name { IfOk result (λ rows. IsAscii rows.name) }
+    ensures stores { IfOk result (λ rows. All (λ row. IsAscii row.loc) rows.stores.items) }
+    ensures reads { IfOk result (λ rows. All (λ row. IsAscii row.loc) rows.reads.items) }
+    ensures sequences { IfOk result (λ rows. All (λ row. 0 < row.k) rows.atoms.items) }
+{
+    let store_x = store(rt, alloc, (0, 0), b"x", (1, 1))?;
+    let store_y = store(rt, alloc, (0, 1), b"y", (1, 1))?;
+    let read_y = read(rt, alloc, (1, 0), b"y", 0)?;
+    let read_x = read(rt, alloc, (1, 1), b"x", 1)?;
+    let atoms = [atom(AtomForm::Exact, 1, 0, 0), atom(AtomForm::Fr, 1, 1, 0)];
+    Ok(Conversion {
+        name: name(rt, alloc, b"MP")?,
+        threads: 2,
+        stores: Vec::from_array(alloc, [store_x, store_y])?,
+        reads: Vec::from_array(alloc, [read_y, read_x])?,
+        atoms: Vec::from_array(alloc, atoms)?,
+    })
+}
+
+const TWO_WRITERS: &str =
+    "Test W2\nThreads 3\nStore P0 0 x value 2*n+1\nStore P1 0 x value 2*n+2\nRead P2 0 x column 0\nAtom 1 rf P2 column 0 from P1: value >= 2*m+2, value mod 2 = 0\n";
+
+const STORE_BUFFERING: &str =
+    "Test SB\nThreads 2\nStore P0 0 x value 1*n+1\nStore P1 0 y value 1*n+1\nRead P0 1 y column 0\nRead P1 1 x column 0\nAtom 1 fr P0 column 0 from P1: value < 1*m+1\nAtom 2 fr P1 column 0 from P0: value < 1*m+1\n";
+
+const MESSAGE_PASSING: &str =
+    "Test MP\nThreads 2\nStore P0 0 x value 1*n+1\nStore P0 1 y value 1*n+1\nRead P1 0 y column 0\nRead P1 1 x column 1\nAtom 1 exact P1 column 0 from P0: value = 1*m+1\nAtom 2 fr P1 column 1 from P0: value < 1*m+1\n";
+
+#[test]
+fn a_conversion_has_its_lines(rt: HostRuntime) -> Result<(), Fail> {
+    let alloc = rt.alloc();
+    let rows = two_writers(&rt, alloc)?;
+    assert_eq!(rt; convert_text(alloc, &rows)?.as_str(), TWO_WRITERS);
+    let rows = store_buffering(&rt, alloc)?;
+    assert_eq!(rt; convert_text(alloc, &rows)?.as_str(), STORE_BUFFERING);
+    let rows = message_passing(&rt, alloc)?;
+    assert_eq!(rt; convert_text(alloc, &rows)?.as_str(), MESSAGE_PASSING);
+    Ok(())
+}
+
+fn expect_line(rt: &impl Abort, status: Status, number: u8, line: &str)
+    requires { HasKind status }
+{
+    assert_eq!(rt; status.number(), number);
+    assert_eq!(rt; refusal_text(&status).bytes(), line.as_bytes());
+}
+
+#[test]
+fn each_status_has_its_number_and_line(rt: HostRuntime) {
+    expect_line(&rt, Status::Whole, 0, "");
+    expect_line(&rt, Status::Memory, 1, "perple: out of memory\n");
+    let usage = "perple: usage: perple COMMAND [N] [OPTIONS]\n";
+    expect_line(&rt, Status::Usage, 2, usage);
+    expect_line(&rt, Status::ReadFault, 3, "perple: reading failed\n");
+    expect_line(&rt, Status::WriteFault, 4, "perple: writing failed\n");
+    let limits = [
+        (Over::Input, "perple: limit input 65536\n"),
+        (Over::Threads, "perple: limit threads 8\n"),
+        (Over::Locations, "perple: limit locations 16\n"),
+        (Over::Instructions, "perple: limit instructions 16\n"),
+        (Over::Atoms, "perple: limit atoms 32\n"),
+        (Over::Frames, "perple: limit frames 4294967296\n"),
+    ];
+    for (over, line) in limits {
+        expect_line(&rt, Status::Limit(over), 7, line);
+    }
+}
+
+#[test]
+fn each_kind_of_a_faulty_text_has_its_line(rt: HostRuntime) {
+    let lines = [
+        "perple: line 4294967295: kind 1 NotX86\n",
+        "perple: line 4294967295: kind 2 Header\n",
+        "perple: line 4294967295: kind 3 Initial\n",
+        "perple: line 4294967295: kind 4 NonZeroInitial\n",
+        "perple: line 4294967295: kind 5 Column\n",
+        "perple: line 4294967295: kind 6 Instruction\n",
+        "perple: line 4294967295: kind 7 NotConstant\n",
+        "perple: line 4294967295: kind 8 Condition\n",
+        "perple: line 4294967295: kind 9 Forall\n",
+        "perple: line 4294967295: kind 10 MemoryCondition\n",
+        "perple: line 4294967295: kind 11 Disjunction\n",
+        "perple: line 4294967295: kind 12 Trailing\n",
+    ];
+    for kind in 1..13u8 {
+        let status = Status::NotLitmus {
+            kind,
+            line: 4294967295,
+        };
+        expect_line(&rt, status, 5, lines[usize::from(kind) - 1]);
+    }
+}
+
+#[test]
+fn each_kind_of_an_atom_outside_has_its_line(rt: HostRuntime) {
+    let lines = [
+        "perple: atom 1: kind 1 NoSuchThread\n",
+        "perple: atom 1: kind 2 NotLoaded\n",
+        "perple: atom 1: kind 3 NoStore\n",
+        "perple: atom 1: kind 4 Ambiguous\n",
+        "perple: atom 1: kind 5 ZeroStored\n",
+        "perple: atom 1: kind 6 NoWriter\n",
+        "perple: atom 1: kind 7 SeveralWriters\n",
+        "perple: atom 1: kind 8 OwnWriter\n",
+    ];
+    for kind in 1..9u8 {
+        let status = Status::OutsideProfile { atom: 1, kind };
+        expect_line(&rt, status, 6, lines[usize::from(kind) - 1]);
+    }
+}
