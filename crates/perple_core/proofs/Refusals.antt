@@ -1,0 +1,35 @@
+-- From the causes of one layer to those of the next.
+use Rattle.std.proofs.Common.{◌≡◌, ◌⊎◌, ℕ, List, Some, refl, inl, inr, subst, sym}
+use Rattle.report_text.specs.declared.status.Status.{Status}
+use Rattle.report_text.specs.declared.status.Status.TheVariants.{Memory}
+use Rattle.x86_subset.specs.Test.{LitmusTest}
+use Rattle.tso_words.specs.Seats.{Ended as Closed}
+use Rattle.command_words.specs.Words.{command_of}
+use Rattle.perple_core.specs.View.{View}
+use Rattle.perple_core.specs.Due.{Took, Refused, IsInputRefusal, IsDue}
+use Rattle.perple_core.specs.Due.IsInputRefusal.{no_memory as input_memory, no_reading as input_reading, too_long as input_long}
+use Rattle.perple_core.specs.Due.Refused.{no_memory, no_reading, too_long, no_text}
+use Rattle.perple_core.specs.Top.{IsStill, RanFor, Accepts, IsStillOrRan}
+use Rattle.command_words.specs.declared.job.Command.{Command}
+use Rattle.command_words.specs.declared.job.Command.TheVariants.{Run, Replay, Convert, Demo}
+
+pub refused_from_input : (words : List (List ℕ)) (old new : View) (command : Command) (status : Status)
+    → command_of words ≡ Some command → IsInputRefusal command old new status → Refused words old new status
+refused_from_input words old new command _ is input_memory = no_memory
+refused_from_input words old new command _ is (input_reading none rose) = no_reading command (record { command_is = is; no_demo = none }) rose
+refused_from_input words old new command _ is (input_long none over) = too_long command (record { command_is = is; no_demo = none }) over
+
+pub refused_from_text : (words : List (List ℕ)) (old new : View) (command : Command) (bytes : List ℕ) (status : Status)
+    → Took words old new command bytes → (status ≡ Memory) ⊎ IsDue command bytes (Some status) → Refused words old new status
+refused_from_text words old new command bytes status took (inl memory) = subst (Refused words old new) (sym memory) no_memory
+refused_from_text words old new command bytes status took (inr is) = no_text status command bytes took is
+
+-- what a command did to the field, where memory ran out
+pub ran_or_still : (words : List (List ℕ)) (old new : View) (done : Closed) (command : Command) (test : LitmusTest)
+    → Accepts words old new command test → IsStill done ⊎ RanFor command test done → IsStillOrRan words old new done Memory
+ran_or_still words old new done command test accepts (inl still) = inl still
+ran_or_still words old new done (Run job) test accepts (inr fits) =
+    inr (refl, record { job = job; test = test; accepts = accepts; fits = fits })
+ran_or_still words old new done (Replay job) test accepts (inr ran) = absurd ran
+ran_or_still words old new done Convert test accepts (inr ran) = absurd ran
+ran_or_still words old new done (Demo k) test accepts (inr ran) = absurd ran

@@ -1,0 +1,40 @@
+-- What ties a test's counters and the logs to the test and to its runs.
+use Rattle.std.specs.Prelude.{◌≡◌, ℕ, ◌≤◌, List, length, true}
+use Rattle.x86_subset.specs.Test.{LitmusTest}
+use Rattle.seq_conv.specs.Event.{Event}
+use Rattle.seq_conv.specs.Numbers.{AreOf}
+use Rattle.seq_conv.specs.Run.{IsRunOf}
+use Rattle.profile_check.specs.Profile.{CheckedTest, IsChecked}
+use Rattle.outcome_conv.specs.Conds.{conds_of}
+use Rattle.load_log.specs.Values.{Values}
+use Rattle.frame_count.specs.RunLogs.{AreLogsOf}
+use Rattle.heuristic.specs.Plan.{plan_of}
+use Rattle.tso_runs.specs.declared.options.Options.{Options}
+use Rattle.tso_runs.specs.Fits.{IsWithinLimits}
+use Rattle.command_words.specs.declared.job.Count.{Count}
+use Rattle.perple_core.specs.declared.counters.Counters.{Counters}
+use Rattle.perple_core.specs.declared.report_run.Wanted.{Wanted}
+use Rattle.perple_core.specs.Texts.{asks_exhaustive, frame_count_of, most_frames}
+
+-- the counters are those of a checked test
+pub record AreCountersOf (checked : CheckedTest) (c : Counters) : Type 0 where
+  pub is_checked : IsChecked checked
+  pub sequences : AreOf checked.test c.sequences
+  pub conds : c.conds ≡ record { conds = conds_of checked.test checked.kinds; ends = checked.test.ends }
+  pub plan : c.plan ≡ plan_of (length checked.test.bodies) c.conds
+
+-- a run of the test's bodies, so often, has these logs
+pub record HasLogs (test : LitmusTest) (n : ℕ) (run : List Event) (logs : List Values) : Type 0 where
+  pub is_run : IsRunOf test n run
+  pub are_logs : AreLogsOf test run logs
+
+-- where the exhaustive count is asked for, there are not too many frames
+abbrev pub CanCountFrames : LitmusTest → Options → Count → Type 0
+CanCountFrames test options count = asks_exhaustive count ≡ true → frame_count_of test options ≤ most_frames
+
+-- the numbers of what is wanted are within their limits
+pub record IsWanted (test : LitmusTest) (wanted : Wanted) : Type 0 where
+  pub options : IsWithinLimits wanted.options
+  pub some_cut : 1 ≤ wanted.cut
+  pub few_cuts : wanted.cut ≤ 65536
+  pub few_frames : CanCountFrames test wanted.options wanted.count

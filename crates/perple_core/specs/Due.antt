@@ -1,0 +1,95 @@
+-- Which refusal is due for a command and its text: this project's own order of refusals.
+use Rattle.std.specs.Prelude.{◌≡◌, ℕ, ◌≤◌, List, length, Bool, false, Some, None, ◌&&◌, nat_lt, if◌then◌else◌, MatchOption}
+use Rattle.std.specs.declared.option.Option.{Option}
+use Rattle.x86_subset.specs.Test.{LitmusTest}
+use Rattle.x86_subset.specs.declared.test.Shape.{Shape}
+use Rattle.x86_subset.specs.declared.test.Shape.TheVariants as shape
+use Rattle.litmus_reader.specs.Answer.{Answer, Accepted, Refused as Unread, Over as TooLarge, kind_number}
+use Rattle.litmus_reader.specs.Reading.{Reads}
+use Rattle.profile_check.specs.Profile.{Profile, inside, outside, profile_of}
+use Rattle.profile_check.specs.Kinds.{kind_number as profile_number}
+use Rattle.command_words.specs.Words.{command_of}
+use Rattle.command_words.specs.declared.job.Command.{Command}
+use Rattle.command_words.specs.declared.job.Command.TheVariants.{Run, Replay, Convert, Demo}
+use Rattle.demo_text.specs.Demo.{demo_text_of}
+use Rattle.report_text.specs.declared.status.Over.{Over}
+use Rattle.report_text.specs.declared.status.Over.TheVariants.{Input, Threads, Locations, Instructions, Atoms, Frames}
+use Rattle.report_text.specs.declared.status.Status.{Status}
+use Rattle.report_text.specs.declared.status.Status.TheVariants.{Memory, Usage, ReadFault, NotLitmus, OutsideProfile, Limit}
+use Rattle.perp_base.specs.Bytes.{GaveAll, IsOver}
+use Rattle.perp_base.specs.Causes.{Rose}
+use Rattle.perple_core.specs.Texts.{asks_exhaustive, demo_options_of, frame_count_of, most_frames}
+use Rattle.perple_core.specs.View.{View}
+
+-- the demo's number
+abbrev pub demo_number : Command → Option ℕ
+demo_number (Run job) = None
+demo_number (Replay job) = None
+demo_number Convert = None
+demo_number (Demo k) = Some k
+
+-- the limit of a test that has too much of something
+abbrev pub over_of : Shape → Over
+over_of shape.Threads = Threads
+over_of shape.Locations = Locations
+over_of shape.Instrs = Instructions
+over_of shape.Atoms = Atoms
+
+-- the exhaustive count is asked for, and there are too many frames
+unfoldable pub has_too_many_frames : Command → LitmusTest → Bool
+has_too_many_frames (Run job) test = asks_exhaustive job.count && nat_lt most_frames (frame_count_of test job.options)
+has_too_many_frames (Replay job) test = asks_exhaustive job.count && nat_lt most_frames (frame_count_of test job.options)
+has_too_many_frames Convert test = false
+has_too_many_frames (Demo k) test = nat_lt most_frames (frame_count_of test (demo_options_of k test))
+
+abbrev pub due_for_profile : Command → LitmusTest → Profile → Option Status
+due_for_profile command test inside = if has_too_many_frames command test then Some (Limit Frames) else None
+due_for_profile command test (outside atom kind) = Some (OutsideProfile atom (profile_number kind))
+
+-- the first refusal in the order litmus form, shape, profile, frames
+abbrev pub due_for_reading : Command → Answer → Option Status
+due_for_reading command (Unread refusal) = Some (NotLitmus (kind_number refusal.kind) refusal.line)
+due_for_reading command (TooLarge limit) = Some (Limit (over_of limit))
+due_for_reading command (Accepted test) = due_for_profile command test (profile_of test)
+
+-- the first refusal that a text within the limit of the input deserves, or none
+pub record IsDue (command : Command) (bytes : List ℕ) (due : Option Status) : Type 0 where
+  pub answer : Answer
+  pub reads : Reads bytes answer
+  pub is : due_for_reading command answer ≡ due
+
+-- the text that the command takes: the demo's own, or all that the source gave up to its end
+abbrev pub Takes : Command → View → View → List ℕ → Type 0
+Takes command old new bytes = MatchOption (demo_number command)
+    (GaveAll old.bytes new.bytes bytes)
+    (λ k. (new ≡ old) × (bytes ≡ demo_text_of k))
+
+-- a text from a source is within the limit of the input
+abbrev pub IsShort : Command → List ℕ → Type 0
+IsShort command text = demo_number command ≡ None → length text ≤ 65536
+
+-- the words are this command's, and it took this text
+pub record Took (words : List (List ℕ)) (old new : View) (command : Command) (bytes : List ℕ) : Type 0 where
+  pub command_is : command_of words ≡ Some command
+  pub takes : Takes command old new bytes
+  pub short : IsShort command bytes
+
+-- the words are those of a command that reads the source
+pub record ReadsSource (words : List (List ℕ)) (command : Command) : Type 0 where
+  pub command_is : command_of words ≡ Some command
+  pub no_demo : demo_number command ≡ None
+
+-- the causes of the refusals before a run
+pub data Refused (words : List (List ℕ)) (old new : View) : Status → Type 0 where
+  no_memory : Refused words old new Memory
+  no_command : command_of words ≡ None → new ≡ old → Refused words old new Usage
+  no_reading : (command : Command) → ReadsSource words command → Rose old.faults new.faults → Refused words old new ReadFault
+  too_long : (command : Command) → ReadsSource words command → IsOver old.bytes new.bytes 65536 → Refused words old new (Limit Input)
+  no_text : (status : Status) (command : Command) (bytes : List ℕ) → Took words old new command bytes
+      → IsDue command bytes (Some status) → Refused words old new status
+
+-- the causes of the refusals of reading
+pub data IsInputRefusal (command : Command) (old new : View) : Status → Type 0 where
+  no_memory : IsInputRefusal command old new Memory
+  no_reading : demo_number command ≡ None → Rose old.faults new.faults → IsInputRefusal command old new ReadFault
+  too_long : demo_number command ≡ None → IsOver old.bytes new.bytes 65536 → IsInputRefusal command old new (Limit Input)

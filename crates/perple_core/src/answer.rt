@@ -1,0 +1,67 @@
+//! The answer to the words and the input, before anything is written: a text or a refusal, and the closed field.
+ghost use Rattle.std.specs.Prelude.{◌≡◌, ◌⊎◌, map, IfOk, IfErr, OnErr, string_bytes};
+ghost use Rattle.litmus_reader.specs.Answer.{Accepted};
+ghost use Rattle.report_text.specs.Status.{HasKind};
+ghost use Rattle.perple_core.specs.View.{seen};
+ghost use Rattle.perple_core.specs.Due.{Refused, due_for_reading};
+ghost use Rattle.perple_core.specs.Top.{IsDemo, IsNamedInAscii, IsStill, IsText, Answers, RanFor, IsStillOrRan};
+
+use crate::ask::ask;
+use crate::work::{Worked, work};
+use perp_base::Source;
+use perp_loop::Gate;
+use report_text::Status;
+use std::alloc::Global;
+use std::thread::Threads;
+use tso_words::{Done, Field};
+
+/// A text or a refusal, and the closed field.
+#[derive(Drop)]
+pub struct Answered {
+    pub text: Result<String, Status>,
+    pub done: Done,
+}
+
+/// Answers the words.
+pub fn answer<R: Threads + Sync, S: Source, G: Gate>(
+    rt: &R,
+    alloc: Global,
+    words: &[String],
+    source: &mut S,
+    field: Field,
+    gate: &G,
+) -> Answered
+    ensures identity { result.done.identity ≡ field }
+    ensures ok { IfOk result.text (λ text. Answers (map string_bytes words.now) (seen S.left S.faults source.old) (seen S.left S.faults source.new) result.done (string_bytes text)) }
+    ensures err { IfErr result.text (Refused (map string_bytes words.now) (seen S.left S.faults source.old) (seen S.left S.faults source.new)) }
+    ensures done { IfErr result.text (IsStillOrRan (map string_bytes words.now) (seen S.left S.faults source.old) (seen S.left S.faults source.new) result.done) }
+    ensures kind { IfErr result.text HasKind }
+    ensures demo { IsDemo (map string_bytes words.now) → source.new ≡ source.old }
+{
+    match ask(alloc, words, source) {
+        Err(status) => Answered {
+            text: Err(status),
+            done: field.close(),
+        },
+        Ok(asked) => {
+            let Worked { text, done } = work(
+                rt,
+                alloc,
+                &asked.command,
+                &asked.checked,
+                field,
+                gate,
+            );
+            match text {
+                Ok(text) => Answered {
+                    text: Ok(text),
+                    done,
+                },
+                Err(_) => Answered {
+                    text: Err(Status::Memory),
+                    done,
+                },
+            }
+        }
+    }
+}

@@ -1,0 +1,180 @@
+//! All that comes before a run: the words, the input, the reading of the text and its checks.
+ghost use Rattle.std.specs.Prelude.{◌≡◌, ◌≤◌, ◌⊎◌, ◌&&◌, ◌^◌, length, map, nat_lt, None, Some, IsSome, IfOk, IfErr, string_bytes};
+ghost use Rattle.demo_text.specs.Demo.{demo_text_of};
+ghost use Rattle.litmus_reader.specs.Answer.{Accepted};
+ghost use Rattle.litmus_reader.specs.Reading.{Reads};
+ghost use Rattle.report_text.specs.Status.{HasKind};
+ghost use Rattle.perple_core.specs.Errors.{status_of_text, status_of_test};
+ghost use Rattle.perple_core.specs.Texts.{asks_exhaustive, frame_count_of, most_frames};
+ghost use Rattle.perple_core.specs.View.{seen};
+ghost use Rattle.perple_core.specs.Due.{IsDue, IsShort, demo_number, due_for_reading, has_too_many_frames, over_of, Takes, Refused, IsInputRefusal};
+ghost use Rattle.perple_core.specs.Top.{Accepts, IsDemo, IsNamedInAscii};
+
+use command_words::{Command, Count, Job, WordsError, read_words};
+use demo_text::{demo_iterations, demo_text};
+use frame_count::frames;
+use litmus_reader::{LitmusError, read_litmus};
+use perp_base::{NoMemory, ReadError, Source, read_input};
+use profile_check::{Checked, ProfileError, check};
+use report_text::{Over, Status};
+use std::alloc::Global;
+use x86_subset::{Shape, Test};
+
+// The most bytes that a text may have.
+const MOST_BYTES: usize = 65_536;
+
+#[derive(Drop)]
+pub struct Asked {
+    pub command: Command,
+    pub checked: Checked,
+}
+
+fn demo_number_of(command: &Command) -> Option<u64>
+    ensures { result ≡ demo_number command.now }
+{
+    match command {
+        Command::Demo(k) => Some(*k),
+        Command::Run(_) | Command::Replay(_) | Command::Convert => None,
+    }
+}
+
+fn limit_of(shape: Shape) -> Over
+    ensures { result ≡ over_of shape }
+{
+    match shape {
+        Shape::Threads => Over::Threads,
+        Shape::Locations => Over::Locations,
+        Shape::Instrs => Over::Instructions,
+        Shape::Atoms => Over::Atoms,
+    }
+}
+
+fn text_status(error: LitmusError) -> Status
+    ensures { result ≡ status_of_text error }
+{
+    match error {
+        LitmusError::Bad { kind, line } => Status::NotLitmus {
+            kind: kind.number(),
+            line,
+        },
+        LitmusError::Over(shape) => Status::Limit(limit_of(shape)),
+        LitmusError::Memory => Status::Memory,
+    }
+}
+
+fn test_status(error: ProfileError) -> Status
+    ensures { result ≡ status_of_test error }
+{
+    match error {
+        ProfileError::Outside { atom, kind } => Status::OutsideProfile {
+            atom,
+            kind: kind.number(),
+        },
+        ProfileError::Memory => Status::Memory,
+    }
+}
+
+// There are more frames than are counted.
+#[tactic(auto, unfolding(crate::specs::Texts::frame_count_of))]
+fn are_too_many(iterations: u32, test: &Test) -> bool
+    requires some { 1 ≤ iterations }
+    requires few { iterations ≤ 100000 }
+    ensures { result ≡ nat_lt most_frames (iterations ^ length test.now.bodies) }
+{
+    frames(iterations, test.threads()).is_none()
+}
+
+// The frames of a run of this job are more than are counted, where they are to be counted.
+#[tactic(auto, unfolding(crate::specs::Texts::frame_count_of))]
+fn has_many_frames(job: &Job, test: &Test) -> bool
+    ensures { result ≡ (asks_exhaustive job.now.count && nat_lt most_frames (frame_count_of test.now job.now.options)) }
+{
+    job.count != Count::Heuristic && are_too_many(job.options.iterations, test)
+}
+
+#[tactic(auto, unfolding(crate::specs::Due::has_too_many_frames, crate::specs::Texts::frame_count_of))]
+fn has_too_many(command: &Command, test: &Test) -> bool
+    ensures { result ≡ has_too_many_frames command.now test.now }
+{
+    match command {
+        Command::Run(job) => has_many_frames(job, test),
+        Command::Replay(job) => has_many_frames(job, test),
+        Command::Convert => false,
+        Command::Demo(_) => are_too_many(demo_iterations(test.threads()), test),
+    }
+}
+
+// The text as a test whose atoms can be counted, or the refusal that is due.
+fn accept(alloc: Global, command: &Command, bytes: &[u8]) -> Result<Checked, Status>
+    requires { length bytes.now ≤ 65536 }
+    ensures reads { IfOk result (λ checked. Reads bytes.now (Accepted checked.test)) }
+    ensures none_due { IfOk result (λ checked. due_for_reading command.now (Accepted checked.test) ≡ None) }
+    ensures err { IfErr result (λ status. (status ≡ Status.Memory) ⊎ IsDue command.now bytes.now (Some status)) }
+    ensures kind { IfErr result HasKind }
+    ensures ascii { IfOk result (λ checked. IsNamedInAscii checked.test) }
+{
+    let test = match read_litmus(alloc, bytes) {
+        Ok(test) => test,
+        Err(error) => return Err(text_status(error)),
+    };
+    let checked = match check(alloc, test) {
+        Ok(checked) => checked,
+        Err(error) => return Err(test_status(error)),
+    };
+    if has_too_many(command, checked.test()) {
+        return Err(Status::Limit(Over::Frames));
+    }
+    Ok(checked)
+}
+
+// The demo's text, which is short.
+fn demo_input(alloc: Global, k: u64) -> Result<Vec<u8>, NoMemory>
+    ensures text { IfOk result (λ bytes. bytes.items ≡ demo_text_of k) }
+    ensures short { IfOk result (λ bytes. length bytes.items ≤ 65536) }
+{
+    demo_text(alloc, k)
+}
+
+fn input_of<S: Source>(alloc: Global, command: &Command, source: &mut S) -> Result<Vec<u8>, Status>
+    ensures ok { IfOk result (λ bytes. Takes command.now (seen S.left S.faults source.old) (seen S.left S.faults source.new) bytes.items) }
+    ensures short { IfOk result (λ bytes. length bytes.items ≤ 65536) }
+    ensures err { IfErr result (IsInputRefusal command.now (seen S.left S.faults source.old) (seen S.left S.faults source.new)) }
+    ensures kind { IfErr result HasKind }
+    ensures demo { IsSome (demo_number command.now) → source.new ≡ source.old }
+{
+    match demo_number_of(command) {
+        Some(k) => match demo_input(alloc, k) {
+            Ok(bytes) => Ok(bytes),
+            Err(_) => Err(Status::Memory),
+        },
+        None => match read_input(alloc, source, MOST_BYTES) {
+            Ok(bytes) => Ok(bytes),
+            Err(ReadError::Fault) => Err(Status::ReadFault),
+            Err(ReadError::TooLong) => Err(Status::Limit(Over::Input)),
+            Err(ReadError::Memory) => Err(Status::Memory),
+        },
+    }
+}
+
+/// The command of the words, and the test of its text; or the refusal that is due.
+pub fn ask<S: Source>(alloc: Global, words: &[String], source: &mut S) -> Result<Asked, Status>
+    ensures ok { IfOk result (λ asked. Accepts (map string_bytes words.now) (seen S.left S.faults source.old) (seen S.left S.faults source.new) asked.command asked.checked.test) }
+    ensures err { IfErr result (Refused (map string_bytes words.now) (seen S.left S.faults source.old) (seen S.left S.faults source.new)) }
+    ensures kind { IfErr result HasKind }
+    ensures ascii { IfOk result (λ asked. IsNamedInAscii asked.checked.test) }
+    ensures demo { IsDemo (map string_bytes words.now) → source.new ≡ source.old }
+{
+    let command = match read_words(alloc, words) {
+        Ok(command) => command,
+        Err(WordsError::Usage) => return Err(Status::Usage),
+        Err(WordsError::Memory) => return Err(Status::Memory),
+    };
+    let bytes = match input_of(alloc, &command, source) {
+        Ok(bytes) => bytes,
+        Err(status) => return Err(status),
+    };
+    match accept(alloc, &command, &bytes) {
+        Ok(checked) => Ok(Asked { command, checked }),
+        Err(status) => Err(status),
+    }
+}
