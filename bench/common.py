@@ -1,0 +1,76 @@
+"""What the benchmarks share: the built program, and runs of it that are timed."""
+import os
+import subprocess
+import sys
+import tempfile
+import time
+
+HERE = os.path.dirname(os.path.abspath(__file__))
+TOP = os.path.dirname(HERE)
+PROGRAM = os.path.join(TOP, "crates", "perple_main", "out", "perple_main")
+
+
+def build():
+    """Has the program built, as its first user would, where it is not there yet."""
+    if os.access(PROGRAM, os.X_OK):
+        return
+    subprocess.run([os.path.join(TOP, "perple"), "convert", "x"],
+                   stdin=subprocess.DEVNULL, stdout=subprocess.DEVNULL, check=False)
+    if not os.access(PROGRAM, os.X_OK):
+        sys.exit("the program is not built")
+
+
+def example(name):
+    with open(os.path.join(TOP, "examples", name + ".litmus"), "rb") as file:
+        return file.read()
+
+
+class Ran:
+    """One run: its status, its output and its seconds."""
+
+    def __init__(self, words, text, cores=None, limit=600):
+        command = [PROGRAM] + [str(word) for word in words]
+        if cores is not None:
+            command = ["taskset", "-c", cores] + command
+        before = time.perf_counter()
+        child = subprocess.Popen(command, stdin=subprocess.PIPE, stdout=subprocess.PIPE, stderr=subprocess.PIPE)
+        try:
+            self.out, self.err = child.communicate(text, timeout=limit)
+        except subprocess.TimeoutExpired:
+            child.kill()
+            self.out, self.err = child.communicate()
+        self.seconds = time.perf_counter() - before
+        self.status = child.returncode
+
+    def line(self, word):
+        """The number on the report's line of this word."""
+        for line in self.out.decode("ascii", "replace").splitlines():
+            if line.startswith(word + " "):
+                return int(line.split()[1])
+        return None
+
+
+def best(words, text, cores=None, times=3):
+    """The fastest of some runs."""
+    runs = [Ran(words, text, cores) for _ in range(times)]
+    for run in runs:
+        if run.status != 0:
+            sys.exit("status %d: %s" % (run.status, run.err.decode("ascii", "replace")))
+    return min(runs, key=lambda run: run.seconds)
+
+
+def peak(words, text):
+    """The most memory that a run had, in KiB, as the system tells it while the run goes on."""
+    with tempfile.TemporaryFile() as file:
+        file.write(text)
+        file.seek(0)
+        child = subprocess.Popen([PROGRAM] + [str(word) for word in words], stdin=file, stdout=subprocess.DEVNULL)
+        most = 0
+        while child.poll() is None:
+            try:
+                with open("/proc/%d/status" % child.pid) as status:
+                    most = max([most] + [int(line.split()[1]) for line in status if line.startswith("VmHWM:")])
+            except OSError:
+                break
+        child.wait()
+        return most
