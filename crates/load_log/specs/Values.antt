@@ -1,5 +1,7 @@
--- What contracts see of a log and of the logs of a run: this project's own layout. An iteration's values stand together, one for each column.
-use Rattle.std.specs.Prelude.{◌≡◌, ℕ, ◌+◌, ◌*◌, All, List, [], length, slice_index, slice_index_or}
+-- What contracts see of a log and of the logs of a run: this project's own layout. In contracts an iteration's values stand together, one for each
+-- column; in memory the columns stand apart.
+use Rattle.std.specs.Prelude.{◌≡◌, ℕ, ◌+◌, ◌*◌, ◌/◌, ◌%◌, All, List, [], length, map, slice_index, slice_index_or}
+use Rattle.std.specs.List.{range_with_len}
 
 -- the number of columns, the values in order, and how many more there is room for
 pub record Values : Type 0 where
@@ -11,6 +13,10 @@ pub record Values : Type 0 where
 pub record Lists : Type 0 where
   pub logs : List Values
   pub spare : ℕ
+
+-- the first values, so many, by iteration and then by column, of words in which each column stands apart, as so many rows
+unfoldable pub by_iteration : ℕ → ℕ → List ℕ → ℕ → List ℕ
+by_iteration columns rows words count = map (λ i. slice_index words (i % columns * rows + i / columns)) (range_with_len 0 count)
 
 -- the most columns of a log
 abbrev pub most_columns : ℕ

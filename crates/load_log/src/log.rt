@@ -1,26 +1,33 @@
 //! The log of one thread.
-ghost use Rattle.std.specs.Prelude.{◌≡◌, ℕ, ◌+◌, ◌-◌, ◌*◌, ◌<◌, ◌≤◌, [], ◌∷◌, ◌++◌, length, slice_index, IfOk, vec_len};
+ghost use Rattle.std.specs.Prelude.{◌≡◌, ℕ, ◌+◌, ◌-◌, ◌*◌, ◌<◌, ◌≤◌, [], ◌∷◌, ◌++◌, length, slice_index, IfOk};
 ghost use Rattle.load_log.specs.Values.{most_columns};
 
 use perp_base::NoMemory;
 use std::alloc::Global;
 use std::marker::Model;
 
-/// A list of values, by iteration and then by column. Its room is reserved when it is made.
+/// A list of values, by iteration and then by column. Its room is reserved when it is made. In memory each column stands apart.
 #[derive(Drop)]
 pub struct Log {
     columns: usize,
-    items: Vec<u64>,
+    // How many words a column has, values or not yet.
+    rows: usize,
+    // One column after another.
+    words: Vec<u64>,
+    // Where the next value goes: the iteration and the column.
+    row: usize,
+    at: usize,
 }
 
 impl Model for Log {
-    ghost use Rattle.std.specs.Prelude.{◌-◌, vec_len};
-    ghost use Rattle.std.specs.Vec.{vec_capacity};
-    ghost use Rattle.load_log.specs.Values.{Values};
+    ghost use Rattle.std.specs.Prelude.{◌≡◌, ◌+◌, ◌-◌, ◌*◌, ◌<◌, ◌≤◌, length};
+    ghost use Rattle.load_log.specs.Values.{Values, by_iteration};
 
     ghost Value = { Values };
 
-    ghost view = { λ a. record { columns = a.columns; values = a.items.items; spare = vec_capacity a.items - vec_len a.items } };
+    ghost view = { λ a. record { columns = a.columns; values = by_iteration a.columns a.rows a.words.items (a.row * a.columns + a.at); spare = a.columns * a.rows - (a.row * a.columns + a.at) } };
+
+    ghost invariant = { λ a. (length a.words.items ≡ a.columns * a.rows) × (0 < a.columns → a.at < a.columns) × (a.row * a.columns + a.at ≤ a.columns * a.rows) };
 }
 
 impl Log {
@@ -29,9 +36,13 @@ impl Log {
         requires few { columns ≤ most_columns }
         ensures made { IfOk result (λ log. log ≡ record { columns = columns; values = []; spare = columns * n }) }
     {
+        let rows = n as usize;
         Ok(Log {
             columns,
-            items: Vec::with_capacity(alloc, columns * n as usize)?,
+            rows,
+            words: vec![in alloc; 0; columns * rows]?,
+            row: 0,
+            at: 0,
         })
     }
 
@@ -40,7 +51,12 @@ impl Log {
         requires room { 1 ≤ self.old.spare }
         ensures appended { self.new ≡ record self.old { values = self.old.values ++ value ∷ []; spare = self.old.spare - 1 } }
     {
-        self.items.push_reserved(value);
+        self.words[self.at * self.rows + self.row] = value;
+        self.at += 1;
+        if self.at == self.columns {
+            self.at = 0;
+            self.row += 1;
+        }
     }
 
     /// The value of a column in iteration `n`; both are counted from 0.
@@ -50,7 +66,7 @@ impl Log {
         requires there { n * self.now.columns + column < length self.now.values }
         ensures value { result ≡ slice_index self.now.values (n * self.now.columns + column) }
     {
-        self.items[n as usize * self.columns + column]
+        self.words[column * self.rows + n as usize]
     }
 
     /// How many values an iteration has.
@@ -61,12 +77,15 @@ impl Log {
         self.columns
     }
 
-    /// All values, by iteration and then by column.
+    /// The values of a column, by iteration, and behind them what is reserved.
     #[inline(always)]
-    pub fn values(&self) -> &[u64]
-        ensures { result.now ≡ self.now.values }
+    pub fn column(&self, column: usize) -> &[u64]
+        requires column { column < self.now.columns }
+        ensures values { (m : ℕ) → m * self.now.columns + column < length self.now.values → slice_index result.now m ≡ slice_index self.now.values (m * self.now.columns + column) }
+        ensures room { length result.now * self.now.columns ≡ length self.now.values + self.now.spare }
     {
-        self.items.as_slice()
+        let start = column * self.rows;
+        &self.words[start..start + self.rows]
     }
 
     /// How many values there are.
@@ -74,6 +93,6 @@ impl Log {
     pub fn len(&self) -> usize
         ensures { result ≡ length self.now.values }
     {
-        self.items.len()
+        self.row * self.columns + self.at
     }
 }

@@ -1,4 +1,4 @@
-// One log by rows, and the logs of two threads.
+// One log by rows and by columns, and the logs of two threads.
 use super::*;
 use std::test::Fail;
 
@@ -13,7 +13,44 @@ fn rows_of_two_columns(rt: HostRuntime) -> Result<(), Fail> {
     assert_eq!(rt; log.len(), 4);
     assert_eq!(rt; log.get(0, 1), 6);
     assert_eq!(rt; log.get(1, 0), 7);
-    assert_eq!(rt; log.values(), [5, 6, 7, 8].as_slice());
+    assert_eq!(rt; log.column(0), [5, 7].as_slice());
+    assert_eq!(rt; log.column(1), [6, 8].as_slice());
+    Ok(())
+}
+
+#[test]
+fn row_that_is_half_filled(rt: HostRuntime) -> Result<(), Fail> {
+    let mut log = Log::reserve(rt.alloc(), 2, 3)?;
+    log.put(5);
+    log.put(6);
+    log.put(7);
+    assert_eq!(rt; log.len(), 3);
+    assert_eq!(rt; log.get(0, 0), 5);
+    assert_eq!(rt; log.get(0, 1), 6);
+    assert_eq!(rt; log.get(1, 0), 7);
+    assert_eq!(rt; log.column(0).len(), 3);
+    assert_eq!(rt; log.column(0)[0], 5);
+    assert_eq!(rt; log.column(0)[1], 7);
+    assert_eq!(rt; log.column(1).len(), 3);
+    assert_eq!(rt; log.column(1)[0], 6);
+    Ok(())
+}
+
+#[test]
+fn full_log_of_three_columns(rt: HostRuntime) -> Result<(), Fail> {
+    let mut log = Log::reserve(rt.alloc(), 3, 2)?;
+    log.put(10);
+    log.put(11);
+    log.put(12);
+    log.put(20);
+    log.put(21);
+    log.put(22);
+    assert_eq!(rt; log.len(), 6);
+    assert_eq!(rt; log.get(0, 0), 10);
+    assert_eq!(rt; log.get(1, 2), 22);
+    assert_eq!(rt; log.column(0), [10, 20].as_slice());
+    assert_eq!(rt; log.column(1), [11, 21].as_slice());
+    assert_eq!(rt; log.column(2), [12, 22].as_slice());
     Ok(())
 }
 
