@@ -8,7 +8,7 @@ use Rattle.std.specs.List.{range_with_len}
 use Rattle.std.proofs.lemmas.List.{get_or-set_other}
 use Rattle.std.proofs.lemmas.List.FromFn.{length-map-range_with_len, get_or-map-range_with_len, map-range_with_len_more}
 use Rattle.std.proofs.lemmas.Nat.{div-mul-add, mod-mul-add, mul-add-lt, row_fits, same_from_place, div_below, mod_below}
-use Rattle.load_log.specs.Values.{Values, by_iteration}
+use Rattle.load_log.specs.Values.{Values, by_iteration, seen}
 
 -- the word of the value at index i
 abbrev place : ℕ → ℕ → ℕ → ℕ
@@ -70,10 +70,10 @@ by_iteration_more columns rows words row at value whole c r =
     more ∙ ap₂ (λ xs x. xs ++ x ∷ []) before written
 
 -- where there is room, the next value has a column and a row
-pub next_within : (columns rows row at : ℕ) → (0 < columns → at < columns) → row * columns + at < columns * rows → (at < columns) × (row < rows)
+pub next_within : (columns rows row at : ℕ) → (0 < columns → at < columns) → 1 ≤ columns * rows - (row * columns + at) → (at < columns) × (row < rows)
 next_within columns rows row at turn room =
     let some : 0 < columns = ⊎_elim (λ h. h) (λ none. absurd (omega (arith, mul-le-mul_right rows none, zero-mul rows))) (cases_lt 0 columns) in
-    (turn some, row_within columns rows row at room)
+    (turn some, row_within columns rows row at (omega arith))
 
 -- the word of a column in a row is within the words
 pub place_within : (columns rows row column : ℕ) → column < columns → row < rows → column * rows + row < columns * rows
@@ -91,14 +91,11 @@ column_within columns rows column c = row_fits column rows columns rows c (omega
 pub next_row : (columns row at : ℕ) → at + 1 ≡ columns → (row + 1) * columns + 0 ≡ row * columns + at + 1
 next_row columns row at full = omega (arith, add-mul row 1 columns, one-mul columns)
 
--- what contracts see of a log
-abbrev pub seen : ℕ → ℕ → List ℕ → ℕ → Values
-seen columns rows words count = record { columns = columns; values = by_iteration columns rows words count; spare = columns * rows - count }
-
 -- a value written at the next place is appended, and takes one place of what is spare
-pub seen_more : (columns rows : ℕ) (words : List ℕ) (row at value next : ℕ) → length words ≡ columns * rows → at < columns → row < rows → next ≡ row * columns + at + 1 → seen columns rows (set words (at * rows + row) value) next ≡ record (seen columns rows words (row * columns + at)) { values = by_iteration columns rows words (row * columns + at) ++ value ∷ []; spare = columns * rows - (row * columns + at) - 1 }
-seen_more columns rows words row at value next whole c r is =
-    let values : by_iteration columns rows (set words (at * rows + row) value) next ≡ by_iteration columns rows words (row * columns + at) ++ value ∷ [] = rw is (by_iteration_more columns rows words row at value whole c r) in
+pub seen_more : (columns rows : ℕ) (words : List ℕ) (row at value next : ℕ) → length words ≡ columns * rows → (0 < columns → at < columns) → 1 ≤ columns * rows - (row * columns + at) → next ≡ row * columns + at + 1 → seen columns rows (set words (at * rows + row) value) next ≡ record (seen columns rows words (row * columns + at)) { values = by_iteration columns rows words (row * columns + at) ++ value ∷ []; spare = columns * rows - (row * columns + at) - 1 }
+seen_more columns rows words row at value next whole turn room is =
+    let within : (at < columns) × (row < rows) = next_within columns rows row at turn room in
+    let values : by_iteration columns rows (set words (at * rows + row) value) next ≡ by_iteration columns rows words (row * columns + at) ++ value ∷ [] = rw is (by_iteration_more columns rows words row at value whole within.0 within.1) in
     let spare : columns * rows - next ≡ columns * rows - (row * columns + at) - 1 = omega arith in
     ap₂ (λ (xs : List ℕ) (n : ℕ). let v : Values = record { columns = columns; values = xs; spare = n } in v) values spare
 

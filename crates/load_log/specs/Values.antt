@@ -1,6 +1,6 @@
 -- What contracts see of a log and of the logs of a run: this project's own layout. In contracts an iteration's values stand together, one for each
 -- column; in memory the columns stand apart.
-use Rattle.std.specs.Prelude.{◌≡◌, ℕ, ◌+◌, ◌*◌, ◌/◌, ◌%◌, All, List, [], length, map, slice_index, slice_index_or}
+use Rattle.std.specs.Prelude.{◌≡◌, ℕ, ◌+◌, ◌-◌, ◌*◌, ◌/◌, ◌%◌, All, List, [], length, map, slice_index, slice_index_or}
 use Rattle.std.specs.List.{range_with_len}
 
 -- the number of columns, the values in order, and how many more there is room for
@@ -14,9 +14,13 @@ pub record Lists : Type 0 where
   pub logs : List Values
   pub spare : ℕ
 
--- the first values, so many, by iteration and then by column, of words in which each column stands apart, as so many rows
+-- the first `count` values by iteration and then by column, where each column stands apart in the words and has `rows` of them
 unfoldable pub by_iteration : ℕ → ℕ → List ℕ → ℕ → List ℕ
 by_iteration columns rows words count = map (λ i. slice_index words (i % columns * rows + i / columns)) (range_with_len 0 count)
+
+-- what contracts see of such words
+abbrev pub seen : ℕ → ℕ → List ℕ → ℕ → Values
+seen columns rows words count = record { columns = columns; values = by_iteration columns rows words count; spare = columns * rows - count }
 
 -- the most columns of a log
 abbrev pub most_columns : ℕ

@@ -20,12 +20,12 @@ pub struct Log {
 }
 
 impl Model for Log {
-    ghost use Rattle.std.specs.Prelude.{◌≡◌, ◌+◌, ◌-◌, ◌*◌, ◌<◌, ◌≤◌, length};
-    ghost use Rattle.load_log.specs.Values.{Values, by_iteration};
+    ghost use Rattle.std.specs.Prelude.{◌≡◌, ◌+◌, ◌*◌, ◌<◌, ◌≤◌, length};
+    ghost use Rattle.load_log.specs.Values.{Values, seen};
 
     ghost Value = { Values };
 
-    ghost view = { λ a. record { columns = a.columns; values = by_iteration a.columns a.rows a.words.items (a.row * a.columns + a.at); spare = a.columns * a.rows - (a.row * a.columns + a.at) } };
+    ghost view = { λ a. seen a.columns a.rows a.words.items (a.row * a.columns + a.at) };
 
     ghost invariant = { λ a. (length a.words.items ≡ a.columns * a.rows) × (0 < a.columns → a.at < a.columns) × (a.row * a.columns + a.at ≤ a.columns * a.rows) };
 }
