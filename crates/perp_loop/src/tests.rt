@@ -186,9 +186,13 @@ fn made(traced: &Traced, steps: &[TracedStep]) -> bool {
     traced.steps() == steps
 }
 
-// Thread `t` logged these values.
+// Thread `t` has one column, and logged these values in it.
 fn logged(logs: &Logs, t: usize, values: &[u64]) -> bool {
-    t < logs.len() && logs.at(t).values() == values
+    if t >= logs.len() {
+        return false;
+    }
+    let log = logs.at(t);
+    log.columns() == 1 && log.len() == values.len() && log.column(0) == values
 }
 
 #[test]
