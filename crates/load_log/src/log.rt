@@ -1,10 +1,14 @@
 //! The log of one thread.
-ghost use Rattle.std.specs.Prelude.{◌≡◌, ℕ, ◌+◌, ◌-◌, ◌*◌, ◌<◌, ◌≤◌, [], ◌∷◌, ◌++◌, length, slice_index, IfOk};
-ghost use Rattle.load_log.specs.Values.{most_columns};
+ghost use Rattle.std.specs.Prelude.{◌≡◌, ℕ, ◌+◌, ◌-◌, ◌*◌, ◌<◌, ◌≤◌, ◌↔◌, [], ◌∷◌, ◌++◌, length, slice_index, IfOk, IsTrue};
+ghost use Rattle.std.specs.Bool.{OnTrue, OnFalse};
+ghost use Rattle.load_log.specs.Values.{Rises, Falls, most_columns};
 
 use perp_base::NoMemory;
 use std::alloc::Global;
 use std::marker::Model;
+
+/// The most columns of a log.
+const MOST_COLUMNS: usize = 16;
 
 /// A list of values, by iteration and then by column. Its room is reserved when it is made. In memory each column stands apart.
 #[derive(Drop)]
@@ -17,17 +21,19 @@ pub struct Log {
     // Where the next value goes: the iteration and the column.
     row: usize,
     at: usize,
+    // Whether no value of a column so far is below the one before it.
+    rises: [bool; MOST_COLUMNS],
 }
 
 impl Model for Log {
     ghost use Rattle.std.specs.Prelude.{◌≡◌, ◌+◌, ◌*◌, ◌<◌, ◌≤◌, length};
-    ghost use Rattle.load_log.specs.Values.{Values, seen};
+    ghost use Rattle.load_log.specs.Values.{AreMarked, Values, most_columns, seen};
 
     ghost Value = { Values };
 
     ghost view = { λ a. seen a.columns a.rows a.words.items (a.row * a.columns + a.at) };
 
-    ghost invariant = { λ a. (length a.words.items ≡ a.columns * a.rows) × (0 < a.columns → a.at < a.columns) × (a.row * a.columns + a.at ≤ a.columns * a.rows) };
+    ghost invariant = { λ a. (length a.words.items ≡ a.columns * a.rows) × (0 < a.columns → a.at < a.columns) × (a.row * a.columns + a.at ≤ a.columns * a.rows) × (a.columns ≤ most_columns) × AreMarked a.rises (seen a.columns a.rows a.words.items (a.row * a.columns + a.at)) };
 }
 
 impl Log {
@@ -43,6 +49,7 @@ impl Log {
             words: vec![in alloc; 0; columns * rows]?,
             row: 0,
             at: 0,
+            rises: [true; MOST_COLUMNS],
         })
     }
 
@@ -51,7 +58,9 @@ impl Log {
         requires room { 1 ≤ self.old.spare }
         ensures appended { self.new ≡ record self.old { values = self.old.values ++ value ∷ []; spare = self.old.spare - 1 } }
     {
-        self.words[self.at * self.rows + self.row] = value;
+        let place = self.at * self.rows + self.row;
+        self.rises[self.at] &= keeps_rising(&self.words, place, self.row, value);
+        self.words[place] = value;
         self.at += 1;
         if self.at == self.columns {
             self.at = 0;
@@ -88,6 +97,16 @@ impl Log {
         &self.words[start..start + self.rows]
     }
 
+    /// Whether no value of a column is below that of the iteration before, as where one thread writes the location that is read.
+    #[inline(always)]
+    pub fn rises(&self, column: usize) -> bool
+        requires column { column < self.now.columns }
+        ensures yes { OnTrue result (Rises self.now column) }
+        ensures no { OnFalse result (Falls self.now column) }
+    {
+        self.rises[column]
+    }
+
     /// How many values there are.
     #[inline(always)]
     pub fn len(&self) -> usize
@@ -95,4 +114,14 @@ impl Log {
     {
         self.row * self.columns + self.at
     }
+}
+
+/// Whether a value is not below that of the iteration before in its column, which stands in the word before its place.
+#[inline(always)]
+fn keeps_rising(words: &[u64], place: usize, row: usize, value: u64) -> bool
+    requires there { place < length words.now }
+    requires row { row ≤ place }
+    ensures { IsTrue result ↔ (0 < row → slice_index words.now (place - 1) ≤ value) }
+{
+    row == 0 || words[place - 1] <= value
 }

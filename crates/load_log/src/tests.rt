@@ -55,6 +55,24 @@ fn full_log_of_three_columns(rt: HostRuntime) -> Result<(), Fail> {
 }
 
 #[test]
+fn columns_that_rise_and_fall(rt: HostRuntime) -> Result<(), Fail> {
+    let mut log = Log::reserve(rt.alloc(), 3, 3)?;
+    log.put(1);
+    log.put(5);
+    log.put(7);
+    log.put(1);
+    log.put(4);
+    log.put(7);
+    log.put(2);
+    log.put(6);
+    log.put(9);
+    assert!(rt; log.rises(0));
+    assert!(rt; !log.rises(1));
+    assert!(rt; log.rises(2));
+    Ok(())
+}
+
+#[test]
 fn logs_of_two_threads(rt: HostRuntime) -> Result<(), Fail> {
     let mut first = Log::reserve(rt.alloc(), 1, 1)?;
     first.put(3);
