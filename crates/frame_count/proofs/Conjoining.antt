@@ -1,5 +1,5 @@
 -- The conjunctions from one on.
-use Rattle.std.proofs.Common.{◌≡◌, ℕ, suc, ◌+◌, ◌-◌, ◌<◌, ◌||◌, ◌∙◌, Bool, false, List, [], ◌∷◌, length, map, sym, ap, arith}
+use Rattle.std.proofs.Common.{◌≡◌, ℕ, zero, suc, ◌+◌, ◌-◌, ◌<◌, ◌||◌, ◌∙◌, Bool, false, refl, List, [], ◌∷◌, length, map, sym, ap, arith}
 use Rattle.std.specs.List.{list_any, range_with_len}
 use Rattle.x86_subset.specs.Conjunctions.{conjunction_of, conjunctions_of}
 
@@ -21,3 +21,14 @@ pub any_next : {A : Type 0} (p : List A → Bool) (ends : List ℕ) (xs : List A
     → c < length ends → group ≡ conjunction_of ends xs c → p group ≡ false → list_any p (rest_of ends xs c) ≡ whole → list_any p (rest_of ends xs (c + 1)) ≡ whole
 any_next p ends xs c group whole lt e none h =
     sym (ap (list_any p) (rest_next ends xs c lt) ∙ ap (λ b. b || list_any p (rest_of ends xs (c + 1))) (ap p (sym e) ∙ none)) ∙ h
+
+any_range : {A : Type 0} (p : List A → Bool) (ends : List ℕ) (xs : List A) (a n : ℕ) → ((i : ℕ) → i < n → p (conjunction_of ends xs (a + i)) ≡ false) → list_any p (map (conjunction_of ends xs) (range_with_len a n)) ≡ false
+any_range p ends xs a zero h = refl
+any_range p ends xs a (suc n) h =
+    let first : p (conjunction_of ends xs a) ≡ false = let e : a + 0 ≡ a = omega arith in ap (λ k. p (conjunction_of ends xs k)) (sym e) ∙ h 0 (omega arith) in
+    let rest = any_range p ends xs (a + 1) n (λ i lt. let e : a + 1 + i ≡ a + suc i = omega arith in ap (λ k. p (conjunction_of ends xs k)) e ∙ h (suc i) (omega arith)) in
+    ap (λ b. b || list_any p (map (conjunction_of ends xs) (range_with_len (a + 1) n))) first ∙ rest
+
+-- where no conjunction passes
+pub any_none : {A : Type 0} (p : List A → Bool) (ends : List ℕ) (xs : List A) → ((c : ℕ) → c < length ends → p (conjunction_of ends xs c) ≡ false) → list_any p (conjunctions_of ends xs) ≡ false
+any_none p ends xs h = any_range p ends xs 0 (length ends) (λ i lt. let e : 0 + i ≡ i = omega arith in ap (λ k. p (conjunction_of ends xs k)) e ∙ h i lt)

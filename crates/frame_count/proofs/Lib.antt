@@ -1,4 +1,5 @@
 pub mod Along
+pub mod ByKind
 pub mod Conjoining
 pub mod Counts
 pub mod Cuts
@@ -6,5 +7,7 @@ pub mod Digits
 pub mod LogsOfRuns
 pub mod Masks
 pub mod PairsOfLogs
-pub mod Sides
+pub mod Partition
+pub mod Reaches
+pub mod Stretches
 pub mod Thresholds

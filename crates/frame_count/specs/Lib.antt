@@ -1,4 +1,4 @@
 pub mod Count
+pub mod Row
 pub mod RunLogs
-pub mod Sides
 pub mod TwoLogs

@@ -1,9 +1,14 @@
 //! The exhaustive counter: at how many frames the conditions of a test hold of its logs.
 //!
 //! `count` goes through all frames, cut into pieces that `rayon` shares among threads. Its clause says that the result
-//! is `count_of` of `outcome_conv` over the logged values, whatever the cut. `row_count` counts the frames that differ in
-//! the last thread's iteration alone, sixty-four at once, and `holds` tells of one frame; theirs are counts and values of
+//! is `count_of` of `outcome_conv` over the logged values, whatever the cut. `row_count` counts the frames of a row, which
+//! differ in the last thread's iteration alone, and `holds` tells of one frame; theirs are counts and values of
 //! `conds_hold`. `frames` and `frame_of` number the frames.
+//!
+//! What the other threads' iterations settle of a row is tested once: each conjunction gets a stretch of the last thread's
+//! iterations outside of which it cannot hold (`reach`, its clause `Leaves` of `specs/Row`). Where the last thread's values
+//! never fall, as where one thread writes, the bounds of a stretch are searched for. What is left is tested eight iterations
+//! at once by lanes, sixty-four to a word.
 //!
 //! What that means for the logs of a run is said by the laws of `specs/RunLogs`: the count is the number of hits of the
 //! run (`counts_are_hits`), that of a row the number of its hits (`rows_count_hits`), and what `outcome_conv` says of the
@@ -14,8 +19,11 @@ mod at_frame;
 mod lanes;
 mod laws;
 mod numbers;
+mod one;
 mod pieces;
+mod reach;
 mod row;
+mod stretch;
 #[cfg(test)]
 mod tests;
 

@@ -3,7 +3,7 @@ ghost use Rattle.std.specs.Prelude.{◌≡◌, ℕ, ◌+◌, ◌-◌, ◌*◌, �
 ghost use Rattle.std.specs.List.{range_with_len};
 ghost use Rattle.load_log.specs.Values.{AreWhole, value_at};
 ghost use Rattle.outcome_conv.specs.Conds.{count_of};
-ghost use Rattle.frame_count.specs.Count.{CanCount, IsOfLogs, number_holds, piece_count};
+ghost use Rattle.frame_count.specs.Count.{CanCount, IsOfLogs, number_holds, piece_count, range_count};
 
 use crate::numbers::{MOST_FRAMES, frame_of, power};
 use crate::row::row_count;
@@ -35,16 +35,29 @@ fn piece(conds: &Conds, logs: &Logs, n: u32, from: u64, to: u64) -> u64
     total
 }
 
-/// At how many frames of piece `j` of the cut the conditions hold.
+/// At how many frames of range `j` of so many ranges the conditions hold.
+fn range_at(conds: &Conds, logs: &Logs, n: u32, all: u64, ranges: u64, j: u64) -> u64
+    requires { (cut : ℕ) × CanCount conds.now logs.now.logs n all cut × (ranges ≡ 2 * cut) × (j < ranges) }
+    ensures count { result ≡ range_count conds.now logs.now.logs n all ranges j }
+    ensures few { result ≤ all }
+{
+    piece(conds, logs, n, j * all / ranges, (j + 1) * all / ranges)
+}
+
+/// At how many frames of piece `j` of the cut the conditions hold. Ranges near the front may take longer than those near the back, or the other
+/// way round; so each piece has one of either.
 fn piece_at(conds: &Conds, logs: &Logs, n: u32, all: u64, cut: u64, j: u64) -> u64
     requires { CanCount conds.now logs.now.logs n all cut × (j < cut) }
     ensures { result ≡ piece_count conds.now logs.now.logs n all cut j }
 {
-    piece(conds, logs, n, j * all / cut, (j + 1) * all / cut)
+    let ranges = 2 * cut;
+    let front = range_at(conds, logs, n, all, ranges, j);
+    let back = range_at(conds, logs, n, all, ranges, ranges - 1 - j);
+    front + back
 }
 
 /// At how many frames of `n` iterations of `t` threads the conditions of some conjunction hold. The frame numbers are cut into so many
-/// pieces, of neighbouring numbers and nearly the same size, which threads share. It takes no memory.
+/// pieces of nearly the same size, which threads share. It takes no memory.
 pub fn count<R: Threads + Sync>(
     rt: &R,
     conds: &Conds,

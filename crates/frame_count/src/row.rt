@@ -1,82 +1,58 @@
 //! The count of a row: all iterations of the last thread, with those of the other threads fixed.
-ghost use Rattle.std.specs.Prelude.{◌≡◌, ℕ, ◌+◌, ◌-◌, ◌*◌, ◌<◌, ◌≤◌, length, count_by, All};
+ghost use Rattle.std.specs.Prelude.{◌≡◌, ℕ, ◌+◌, ◌-◌, ◌<◌, ◌≤◌, ◌==◌, length, count_by, slice_index_or, true, All};
 ghost use Rattle.std.specs.List.{list_all, range_with_len};
-ghost use Rattle.load_log.specs.Values.{AreWhole, value_at};
-ghost use Rattle.outcome_conv.specs.Conds.{cond_holds, conds_hold};
-ghost use Rattle.outcome_conv.specs.Holds.{iteration_in};
+ghost use Rattle.x86_subset.specs.Conjunctions.{conjunction_of};
+ghost use Rattle.load_log.specs.Values.{value_at};
+ghost use Rattle.outcome_conv.specs.Conds.{conds_hold};
 ghost use Rattle.frame_count.specs.Count.{IsFrameOf, IsGood, IsOfLogs, frame_holds, with_last};
-ghost use Rattle.frame_count.specs.Sides.{HasRoom, bound_of, mask_along, side_at};
+ghost use Rattle.frame_count.specs.declared.stretch.Stretch.{Stretch};
+ghost use Rattle.frame_count.specs.Row.{Leaves, holds_along, left_along, mask_along};
 
-use crate::at_frame::{holds_at, logged};
-use crate::lanes::{Side, word};
+use crate::lanes::{bound, own_word, values_word};
+use crate::one::some_at;
+use crate::reach::{hull, reaches};
+use crate::stretch::Stretch;
 use load_log::Logs;
-use outcome_conv::{Cond, CondKind, Conds};
+use outcome_conv::{Cond, Conds};
 use perp_base::Frame;
 
-/// The logged value of a condition along a row.
-#[inline(always)]
-fn value_side<'a>(cond: &Cond, logs: &'a Logs, frame: &Frame) -> Side<'a>
-    requires { (n : ℕ) × IsFrameOf logs.now.logs n frame.now × IsGood logs.now.logs cond.now }
-    ensures same { (m : ℕ) → side_at result m ≡ value_at logs.now.logs cond.now.reader cond.now.column (iteration_in (with_last frame.now m) cond.now.reader) }
-    ensures room { (n : ℕ) → AreWhole n logs.now.logs → HasRoom n result }
-{
-    let reader = cond.reader as usize;
-    let column = cond.column as usize;
-    if reader == frame.len() - 1 {
-        let log = logs.at(reader);
-        Side::Logged {
-            values: log.values(),
-            columns: log.columns(),
-            column,
-        }
-    } else {
-        Side::Fixed(logged(logs, reader, column, frame.at(reader)))
-    }
-}
-
-/// The number that the logged value of a condition is compared with, along a row.
-#[inline(always)]
-fn bound_side(cond: &Cond, logs: &Logs, frame: &Frame) -> Side<'static>
-    requires { (n : ℕ) × IsFrameOf logs.now.logs n frame.now × IsGood logs.now.logs cond.now }
-    ensures same { (m : ℕ) → side_at result m ≡ bound_of cond.now.kind (iteration_in (with_last frame.now m) cond.now.writer) }
-    ensures room { (n : ℕ) → n ≤ 100000 → HasRoom n result }
-{
-    let writer = cond.writer as usize;
-    let (k, a) = match cond.kind {
-        CondKind::AtLeast { k, a } => (k, a),
-        CondKind::Below { k } => (k, 1),
-        CondKind::Exact { k, a } => (k, a),
-    };
-    if writer == frame.len() - 1 {
-        Side::Line { k, a }
-    } else {
-        Side::Fixed(k * frame.at(writer) as u64 + a)
-    }
-}
-
-/// At which of sixty-four iterations of the last thread a condition holds.
+/// At which of sixty-four iterations a condition holds whose reader is the last thread.
 #[inline(always)]
 fn cond_word(cond: &Cond, logs: &Logs, frame: &Frame, at: usize) -> u64
-    requires { (n : ℕ) × (at + 64 ≤ n) × IsFrameOf logs.now.logs n frame.now × IsGood logs.now.logs cond.now }
-    ensures { result ≡ mask_along (λ m. cond_holds (value_at logs.now.logs) (with_last frame.now m) cond.now) at 64 }
+    requires frame { (n : ℕ) × (at + 64 ≤ n) × IsFrameOf logs.now.logs n frame.now × IsGood logs.now.logs cond.now }
+    requires reader { (cond.now.reader == length frame.now - 1) ≡ true }
+    ensures { result ≡ mask_along (λ m. holds_along logs.now.logs frame.now m cond.now) at 64 }
 {
-    word(
-        cond.kind,
-        value_side(cond, logs, frame),
-        bound_side(cond, logs, frame),
-        at,
-    )
+    let values = logs.at(cond.reader as usize).column(cond.column as usize);
+    if cond.writer == cond.reader {
+        own_word(cond.kind, values, at)
+    } else {
+        let bound = bound(cond.kind, frame.at(cond.writer as usize));
+        values_word(cond.kind, values, bound, at)
+    }
 }
 
-/// At which of sixty-four iterations of the last thread each condition holds.
+/// At which of sixty-four iterations a condition holds, if it is on what the last thread logged; else all of them.
 #[inline(always)]
-fn all_word(conds: &[Cond], logs: &Logs, frame: &Frame, at: usize) -> u64
+fn one_word(cond: &Cond, logs: &Logs, frame: &Frame, at: usize) -> u64
+    requires { (n : ℕ) × (at + 64 ≤ n) × IsFrameOf logs.now.logs n frame.now × IsGood logs.now.logs cond.now }
+    ensures { result ≡ mask_along (λ m. left_along logs.now.logs frame.now m cond.now) at 64 }
+{
+    if cond.reader as usize == frame.len() - 1 {
+        cond_word(cond, logs, frame, at)
+    } else {
+        u64::MAX
+    }
+}
+
+/// At which of sixty-four iterations the conditions on what the last thread logged hold.
+fn left_word(conds: &[Cond], logs: &Logs, frame: &Frame, at: usize) -> u64
     requires { (n : ℕ) × (at + 64 ≤ n) × IsFrameOf logs.now.logs n frame.now × All (IsGood logs.now.logs) conds.now }
-    ensures { result ≡ mask_along (λ m. list_all (cond_holds (value_at logs.now.logs) (with_last frame.now m)) conds.now) at 64 }
+    ensures { result ≡ mask_along (λ m. list_all (left_along logs.now.logs frame.now m) conds.now) at 64 }
 {
     let mut word = u64::MAX;
     for cond in conds {
-        word &= cond_word(cond, logs, frame, at);
+        word &= one_word(cond, logs, frame, at);
         if word == 0 {
             return 0;
         }
@@ -84,17 +60,63 @@ fn all_word(conds: &[Cond], logs: &Logs, frame: &Frame, at: usize) -> u64
     word
 }
 
-/// At which of sixty-four iterations of the last thread the conditions of some conjunction hold.
-fn some_word(conds: &Conds, logs: &Logs, frame: &Frame, at: usize) -> u64
+/// At which of sixty-four iterations the conditions of a conjunction hold that has this stretch.
+fn all_word(conds: &[Cond], logs: &Logs, frame: &Frame, stretch: Stretch, at: usize) -> u64
+    requires frame { (n : ℕ) × (at + 64 ≤ n) × IsFrameOf logs.now.logs n frame.now × All (IsGood logs.now.logs) conds.now }
+    requires stretch { Leaves (at + 64) logs.now.logs frame.now conds.now stretch }
+    ensures { result ≡ mask_along (λ m. list_all (holds_along logs.now.logs frame.now m) conds.now) at 64 }
+{
+    let within = stretch.word(at);
+    if stretch.settled {
+        within
+    } else if within == 0 {
+        0
+    } else {
+        within & left_word(conds, logs, frame, at)
+    }
+}
+
+/// At which of sixty-four iterations the conditions of some conjunction hold.
+fn some_word(conds: &Conds, logs: &Logs, frame: &Frame, stretches: &[Stretch], at: usize) -> u64
     requires frame { (n : ℕ) × (at + 64 ≤ n) × IsFrameOf logs.now.logs n frame.now }
     requires names { All (IsOfLogs logs.now.logs) conds.now.conds }
+    requires each { length conds.now.ends ≤ length stretches.now }
+    requires stretches { (c : ℕ) (d : Stretch) → c < length conds.now.ends → Leaves (at + 64) logs.now.logs frame.now (conjunction_of conds.now.ends conds.now.conds c) (slice_index_or stretches.now c d) }
     ensures { result ≡ mask_along (λ m. frame_holds conds.now logs.now.logs (with_last frame.now m)) at 64 }
 {
     let mut word = 0u64;
     for c in 0..conds.conjunctions() {
-        word |= all_word(conds.group(c), logs, frame, at);
+        word |= all_word(conds.group(c), logs, frame, stretches[c], at);
     }
     word
+}
+
+/// At how many iterations from `from` up to and without `to` the conditions of some conjunction hold.
+fn count_between(
+    conds: &Conds,
+    logs: &Logs,
+    frame: &Frame,
+    stretches: &[Stretch],
+    from: usize,
+    to: usize,
+) -> u64
+    requires frame { (n : ℕ) × (from ≤ to) × (to ≤ n) × IsFrameOf logs.now.logs n frame.now }
+    requires names { All (IsOfLogs logs.now.logs) conds.now.conds }
+    requires each { length conds.now.ends ≤ length stretches.now }
+    requires stretches { (c : ℕ) (d : Stretch) → c < length conds.now.ends → Leaves to logs.now.logs frame.now (conjunction_of conds.now.ends conds.now.conds c) (slice_index_or stretches.now c d) }
+    ensures { result ≡ count_by (λ m. frame_holds conds.now logs.now.logs (with_last frame.now m)) (range_with_len from (to - from)) }
+{
+    let mut total = 0u64;
+    let mut at = from;
+    while to - at >= 64 {
+        total += some_word(conds, logs, frame, stretches, at).count_ones() as u64;
+        at += 64;
+    }
+    while at < to {
+        total += some_at(conds, logs, frame, stretches, at as u32) as u64;
+        at += 1;
+    }
+    total
 }
 
 /// At how many iterations of the last thread from `from` up to and without `to`, with the frame's iterations of the others, the
@@ -104,15 +126,13 @@ pub fn row_count(conds: &Conds, logs: &Logs, frame: &Frame, from: u32, to: u32) 
     requires names { All (IsOfLogs logs.now.logs) conds.now.conds }
     ensures { result ≡ count_by (λ m. conds_hold (value_at logs.now.logs) conds.now.ends conds.now.conds (with_last frame.now m)) (range_with_len from (to - from)) }
 {
-    let mut total = 0u64;
-    let mut at = from;
-    while to - at >= 64 {
-        total += some_word(conds, logs, frame, at as usize).count_ones() as u64;
-        at += 64;
+    let stretches = reaches(conds, logs, frame, to as usize);
+    let hull = hull(&stretches[..conds.conjunctions()]);
+    let first = hull.from.max(from as usize);
+    let end = hull.to.min(to as usize);
+    if first < end {
+        count_between(conds, logs, frame, &stretches, first, end)
+    } else {
+        0
     }
-    while at < to {
-        total += holds_at(conds, logs, frame, at) as u64;
-        at += 1;
-    }
-    total
 }

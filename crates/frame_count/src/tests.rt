@@ -215,20 +215,30 @@ fn one_iteration_by_either_of_two_conjunctions(rt: HostRuntime) -> Result<(), Fa
     Ok(())
 }
 
+// A value of iteration `row`: any small one, or one that is not below those of the iterations before.
+fn random_value(words: &mut Xoshiro256PlusPlus, row: u32, rising: bool) -> u64 {
+    if rising {
+        u64::from(row) * 2 + words.next_u64() % 3
+    } else {
+        words.next_u64() % (u64::from(row) * 2 + 9)
+    }
+}
+
 fn random_log(
     alloc: Global,
     words: &mut Xoshiro256PlusPlus,
     n: u32,
     columns: usize,
+    rising: bool,
 ) -> Result<Log, NoMemory>
     requires n { n ≤ 1000 }
-    requires columns { columns ≤ 16 }
+    requires columns { (1 ≤ columns) × (columns ≤ 16) }
     ensures { IfOk result (λ log. (log.columns ≡ columns) × (length log.values ≡ n * columns)) }
 {
     let mut log = Log::reserve(alloc, columns, n)?;
     let all = n * columns as u32;
     for i in 0..all {
-        log.put(words.next_u64() % (u64::from(i) + 9));
+        log.put(random_value(words, i / columns as u32, rising));
     }
     Ok(log)
 }
@@ -254,6 +264,15 @@ fn random_cond(words: &mut Xoshiro256PlusPlus, columns: usize) -> Cond
     }
 }
 
+// The value of a column in iteration `i`; 0 where there is none.
+fn value_in(log: &Log, column: usize, i: usize) -> u64 {
+    if column < log.columns() {
+        log.column(column).get(i).copied().unwrap_or(0)
+    } else {
+        0
+    }
+}
+
 // Whether a condition passes, told anew.
 fn passes(cond: &Cond, logs: &Logs, frame: [u32; 2], columns: usize) -> bool
     requires kind { IsKind cond.now.kind }
@@ -262,11 +281,7 @@ fn passes(cond: &Cond, logs: &Logs, frame: [u32; 2], columns: usize) -> bool
 {
     let i = frame[cond.reader as usize] as usize;
     let m = u64::from(frame[cond.writer as usize]);
-    let values = logs.at(cond.reader as usize).values();
-    let value = values
-        .get(i * columns + cond.column as usize)
-        .copied()
-        .unwrap_or(0);
+    let value = value_in(logs.at(cond.reader as usize), cond.column as usize, i);
     match cond.kind {
         CondKind::AtLeast { k, a } => value >= k * m + a && value % k == a % k,
         CondKind::Below { k } => value <= k * m,
@@ -346,14 +361,17 @@ fn plain_count(conds: &Conds, logs: &Logs, n: u32, columns: usize) -> u64
 fn random_logs_count_as_frame_by_frame(rt: HostRuntime) -> Result<(), Fail> {
     let alloc = rt.alloc();
     let mut words = Xoshiro256PlusPlus::seed_from_u64(13);
-    for _ in 0..20 {
-        let first = random_log(alloc, &mut words, 150, 2)?;
-        let second = random_log(alloc, &mut words, 150, 2)?;
+    let mut hits = [0u64; 2];
+    for round in 0..20 {
+        let rising = round % 2 == 0;
+        let first = random_log(alloc, &mut words, 150, 2, rising)?;
+        let second = random_log(alloc, &mut words, 150, 2, rising)?;
         let logs = two_logs(alloc, first, second, 150, 2)?;
         let conds = random_conds(alloc, &mut words, 2)?;
         let want = plain_count(&conds, &logs, 150, 2);
         assert_eq!(rt; counted(&rt, &conds, &logs, 150, 2, 7), want);
-        assert!(rt; want > 0);
+        hits[rising as usize] = hits[rising as usize].wrapping_add(want);
     }
+    assert!(rt; hits[0] > 0 && hits[1] > 0);
     Ok(())
 }

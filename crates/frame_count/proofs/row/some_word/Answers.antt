@@ -3,10 +3,10 @@ use Rattle.std.specs.List.{list_all, list_any}
 use Rattle.load_log.specs.Values.{value_at}
 use Rattle.outcome_conv.specs.Conds.{cond_holds}
 use Rattle.frame_count.specs.Count.{with_last}
-use Rattle.frame_count.specs.Sides.{mask_along}
+use Rattle.frame_count.specs.Row.{mask_along}
 use Rattle.frame_count.proofs.Along.{along_false, along_or}
 use Rattle.frame_count.proofs.Conjoining.{rest_first, rest_next, rest_of}
-use Rattle.frame_count.proofs.Sides.{some_more}
+use Rattle.frame_count.proofs.ByKind.{some_more}
 use Rattle.frame_count.proofs.row.some_word.Goals as goal
 
 pub loop-c-init : goal.loop-c-init

@@ -3,7 +3,7 @@ use Rattle.std.specs.List.{list_all, list_any}
 use Rattle.load_log.specs.Values.{value_at}
 use Rattle.outcome_conv.specs.Conds.{cond_holds}
 use Rattle.frame_count.specs.Count.{frame_holds, with_last}
-use Rattle.frame_count.specs.Sides.{mask_along}
+use Rattle.frame_count.specs.Row.{mask_along}
 use Rattle.frame_count.proofs.Conjoining.{rest_of}
 use Rattle.frame_count.proofs.row.some_word.Given as goal
 

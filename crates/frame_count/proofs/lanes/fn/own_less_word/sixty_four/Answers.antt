@@ -1,0 +1,10 @@
+use Rattle.std.proofs.Common.{◌+◌, ◌*◌, ltb, slice_index, ap, ◌∙◌}
+use Rattle.std.proofs.lemmas.Simd.{zip2_of_maps}
+use Rattle.std.specs.List.{range_with_len}
+use lib.Lanes.{mask_l}
+use Rattle.frame_count.specs.Row.{mask_along}
+use Rattle.frame_count.proofs.lanes.fn.own_less_word.sixty_four.Goals as goal
+
+pub returns : goal.returns
+unfolding mask_along
+returns c = c.less_bits.ensures ∙ ap mask_l (zip2_of_maps ltb (slice_index c.captures.values.now) (λ m. c.captures.k * m + c.captures.a) (range_with_len c.args.i 8) c.value_lanes.ensures c.line_lanes.ensures)

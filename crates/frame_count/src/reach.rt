@@ -1,0 +1,115 @@
+//! How far the conditions of a row reach: what does not depend on the last thread's iteration is tested here, once a row.
+ghost use Rattle.std.specs.Prelude.{◌≡◌, ℕ, ◌-◌, ◌<◌, ◌≤◌, ◌==◌, ◌&&◌, ◌||◌, All, false, length, slice_index_or, true};
+ghost use Rattle.x86_subset.specs.Conjunctions.{conjunction_of};
+ghost use Rattle.frame_count.specs.Count.{IsFrameOf, IsGood, IsOfLogs};
+ghost use Rattle.frame_count.specs.Row.{Leaves, holds_along, is_within};
+ghost use Rattle.frame_count.specs.declared.stretch.Stretch.{Stretch};
+
+use crate::at_frame::logged;
+use crate::lanes::bound;
+use crate::stretch::Stretch;
+use load_log::Logs;
+use outcome_conv::{Cond, Conds};
+use perp_base::Frame;
+
+/// How many conjunctions there are at most.
+const MOST_CONJUNCTIONS: usize = 8;
+
+/// Where a condition holds whose reader is not the last thread.
+fn reader_stays(cond: &Cond, logs: &Logs, frame: &Frame, n: usize) -> Stretch
+    requires frame { (all : ℕ) × (n ≤ all) × IsFrameOf logs.now.logs all frame.now × IsGood logs.now.logs cond.now }
+    requires reader { (cond.now.reader == length frame.now - 1) ≡ false }
+    ensures within { (m : ℕ) → m < n → holds_along logs.now.logs frame.now m cond.now ≡ is_within result m }
+    ensures settled { result.settled ≡ true }
+{
+    let reader = cond.reader as usize;
+    let writer = cond.writer as usize;
+    let value = logged(logs, reader, cond.column as usize, frame.at(reader));
+    if writer == frame.len() - 1 {
+        Stretch::of_writer(cond.kind, value, n)
+    } else {
+        Stretch::all_or_none(cond.holds(value, frame.at(writer)), n)
+    }
+}
+
+/// Where a condition can hold whose reader is the last thread, and whose writer is not.
+fn writer_stays(cond: &Cond, logs: &Logs, frame: &Frame, n: usize) -> Stretch
+    requires frame { (all : ℕ) × (n ≤ all) × IsFrameOf logs.now.logs all frame.now × IsGood logs.now.logs cond.now }
+    requires reader { (cond.now.reader == length frame.now - 1) ≡ true }
+    requires writer { (cond.now.writer == length frame.now - 1) ≡ false }
+    ensures tells { (m : ℕ) → m < n → holds_along logs.now.logs frame.now m cond.now ≡ (is_within result m && (result.settled || holds_along logs.now.logs frame.now m cond.now)) }
+{
+    let column = cond.column as usize;
+    let log = logs.at(cond.reader as usize);
+    if log.rises(column) {
+        let bound = bound(cond.kind, frame.at(cond.writer as usize));
+        Stretch::of_values(cond.kind, &log.column(column)[..n], bound)
+    } else {
+        Stretch::left(n)
+    }
+}
+
+/// Where a condition can hold in the first `n` iterations of the last thread.
+fn cond_stretch(cond: &Cond, logs: &Logs, frame: &Frame, n: usize) -> Stretch
+    requires frame { (all : ℕ) × (n ≤ all) × IsFrameOf logs.now.logs all frame.now × IsGood logs.now.logs cond.now }
+    ensures tells { (m : ℕ) → m < n → holds_along logs.now.logs frame.now m cond.now ≡ (is_within result m && (result.settled || holds_along logs.now.logs frame.now m cond.now)) }
+    ensures others { (cond.now.reader == length frame.now - 1) ≡ false → result.settled ≡ true }
+{
+    let last = frame.len() - 1;
+    if cond.reader as usize != last {
+        reader_stays(cond, logs, frame, n)
+    } else if cond.writer as usize != last {
+        writer_stays(cond, logs, frame, n)
+    } else {
+        Stretch::left(n)
+    }
+}
+
+/// Where the conditions of a conjunction can hold in the first `n` iterations of the last thread.
+fn reach(conds: &[Cond], logs: &Logs, frame: &Frame, n: usize) -> Stretch
+    requires frame { (all : ℕ) × (n ≤ all) × IsFrameOf logs.now.logs all frame.now × All (IsGood logs.now.logs) conds.now }
+    ensures { Leaves n logs.now.logs frame.now conds.now result }
+{
+    let mut stretch = Stretch::all_or_none(true, n);
+    for cond in conds {
+        stretch = stretch.meet(cond_stretch(cond, logs, frame, n));
+        if stretch.is_empty() {
+            return Stretch::all_or_none(false, n);
+        }
+    }
+    stretch
+}
+
+/// The stretch of each conjunction.
+pub(crate) fn reaches(
+    conds: &Conds,
+    logs: &Logs,
+    frame: &Frame,
+    n: usize,
+) -> [Stretch; MOST_CONJUNCTIONS]
+    requires frame { (all : ℕ) × (n ≤ all) × IsFrameOf logs.now.logs all frame.now }
+    requires names { All (IsOfLogs logs.now.logs) conds.now.conds }
+    ensures { (c : ℕ) (d : Stretch) → c < length conds.now.ends → Leaves n logs.now.logs frame.now (conjunction_of conds.now.ends conds.now.conds c) (slice_index_or result c d) }
+{
+    let mut stretches = [Stretch::all_or_none(false, n); MOST_CONJUNCTIONS];
+    for c in 0..conds.conjunctions() {
+        stretches[c] = reach(conds.group(c), logs, frame, n);
+    }
+    stretches
+}
+
+/// The iterations from the first to the last that stand in one of these.
+pub(crate) fn hull(stretches: &[Stretch]) -> Stretch
+    ensures { (c m : ℕ) (d : Stretch) → c < length stretches.now → is_within (slice_index_or stretches.now c d) m ≡ true → is_within result m ≡ true }
+{
+    let mut hull = Stretch {
+        from: usize::MAX,
+        to: 0,
+        settled: false,
+    };
+    for stretch in stretches {
+        hull.from = hull.from.min(stretch.from);
+        hull.to = hull.to.max(stretch.to);
+    }
+    hull
+}
