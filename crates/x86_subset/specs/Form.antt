@@ -8,6 +8,7 @@ use Rattle.x86_subset.specs.declared.form.Keyword.TheVariants.{Mov, Mfence, Xchg
 use Rattle.x86_subset.specs.declared.form.Slot.{Slot}
 use Rattle.x86_subset.specs.declared.form.Slot.TheVariants.{Mark, Maybe, Word, Location, Register, Any, Small, Thread}
 use Rattle.x86_subset.specs.declared.form.Found.{Found as FoundAt}
+use Rattle.x86_subset.specs.declared.form.Span.{Span}
 use Rattle.x86_subset.specs.declared.token.Token.{Token}
 use Rattle.x86_subset.specs.declared.token.TokenKind.{TokenKind}
 use Rattle.x86_subset.specs.declared.token.TokenKind.TheVariants.{Name, Number, Left, Right, LeftSquare, RightSquare, LeftBrace, RightBrace, Semi, Bar, Comma, Colon, Equal, Dollar, Tilde, Both, Either, Other}
@@ -85,6 +86,22 @@ letters Xchg = codes "XCHG"
 -- the token is the keyword, in letters of either case
 abbrev pub is_keyword : Keyword → Lexeme → Bool
 is_keyword word t = is Name t && spells (letters word) t.spelled
+
+-- the token is a name that is no register's
+abbrev pub is_location : Lexeme → Bool
+is_location t = is Name t && is_none (register_of t.spelled)
+
+-- the register that the token names
+abbrev pub register_named : Lexeme → Option Reg
+register_named t = if is Name t then register_of t.spelled else None
+
+-- the value of a number
+abbrev pub number_in : Lexeme → Option ℕ
+number_in t = if is Number t then Some (value t) else None
+
+-- the value of a number of 32 bits
+abbrev pub small_number_in : Lexeme → Option ℕ
+small_number_in t = if is Number t && nat_lt (value t) (2 ^ 32) then Some (value t) else None
 
 -- ---- slots
 
@@ -179,6 +196,10 @@ meaning (row ∷ rows) ts = let later = meaning rows ts in elim (whole (fit row.
 -- a token with its bytes in the text
 abbrev pub lexeme_of : List ℕ → Token → Lexeme
 lexeme_of text t = record { kind = t.kind; spelled = take (t.to - t.from) (drop t.from text); from = t.from; line = t.line }
+
+-- where a token stands in the text
+abbrev pub place_of : Token → Span
+place_of t = record { from = t.from; to = t.to }
 
 -- tokens with their bytes in the text
 abbrev pub lexemes : List ℕ → List Token → List Lexeme

@@ -1,7 +1,7 @@
 // The forms that tokens may have.
-ghost use Rattle.std.specs.Prelude.{ℕ, List, ◌≡◌, ◌==◌, ◌≤◌, ◌<◌, ◌+◌, ◌-◌, ◌^◌, length, take, drop, map, min, Result, Ok, Err, Some, None, option_map};
+ghost use Rattle.std.specs.Prelude.{ℕ, List, ◌≡◌, ◌==◌, ◌≤◌, ◌<◌, ◌+◌, ◌-◌, ◌^◌, length, take, drop, map, min, Result, Ok, Err, Some, None, option_map, if◌then◌else◌};
 ghost use Rattle.std.specs.List.{list_all, zip};
-ghost use Rattle.x86_subset.specs.Form.{is, is_keyword, kind_code, capital, register_of, letters, value, value_of, spells, fill, may_miss, fit, lexeme_of, lexemes, found_of, nothing_found, nothing_at, whole, Fills, fill_first, Gives};
+ghost use Rattle.x86_subset.specs.Form.{is, is_keyword, is_location, register_named, number_in, small_number_in, place_of, kind_code, capital, register_of, letters, value, value_of, spells, fill, may_miss, fit, lexeme_of, lexemes, found_of, nothing_found, nothing_at, whole, Fills, fill_first, Gives};
 
 use crate::instr::Reg;
 use crate::token::{Token, TokenKind};
@@ -145,6 +145,54 @@ pub fn is_keyword(bytes: &[u8], word: Keyword, t: &Token) -> bool
     is(TokenKind::Name, t) && spells(spelled(bytes, t), letters(word))
 }
 
+/// The place of a name that is no register's; `None` exactly for any other token.
+fn location(bytes: &[u8], t: &Token) -> Option<Span>
+    ensures { result ≡ (if is_location (lexeme_of bytes.now t.now) then Some (place_of t.now) else None) }
+{
+    if is(TokenKind::Name, t) && Reg::of(spelled(bytes, t)).is_none() {
+        Some(Span {
+            from: t.from,
+            to: t.to,
+        })
+    } else {
+        None
+    }
+}
+
+/// The register that the token names, in letters of either case; `None` exactly where it names none.
+fn register(bytes: &[u8], t: &Token) -> Option<Reg>
+    ensures { result ≡ register_named (lexeme_of bytes.now t.now) }
+{
+    if is(TokenKind::Name, t) {
+        Reg::of(spelled(bytes, t))
+    } else {
+        None
+    }
+}
+
+/// The value of a number, or 2^32 for any larger one; `None` exactly for any other token.
+fn number(bytes: &[u8], t: &Token) -> Option<u64>
+    ensures { result ≡ number_in (lexeme_of bytes.now t.now) }
+{
+    if is(TokenKind::Number, t) {
+        Some(value(spelled(bytes, t)))
+    } else {
+        None
+    }
+}
+
+/// The value of a number of 32 bits; `None` exactly for any other token.
+fn small_number(bytes: &[u8], t: &Token) -> Option<u32>
+    ensures { result ≡ small_number_in (lexeme_of bytes.now t.now) }
+{
+    let number = number(bytes, t)?;
+    if number < 1 << 32 {
+        Some(number as u32)
+    } else {
+        None
+    }
+}
+
 impl Slot {
     /// What is found once the token fills the slot; `None` where it does not fit.
     #[tactic(auto, unfolding(crate::specs::Form::fill))]
@@ -152,68 +200,28 @@ impl Slot {
         ensures { Fills bytes.now result (fill self (lexeme_of bytes.now t.now) (found_of bytes.now found)) }
     {
         match self {
-            Slot::Mark(kind) | Slot::Maybe(kind) => if is(kind, t) { Some(found) } else { None },
-            Slot::Word(word) => if is_keyword(bytes, word, t) {
-                Some(found)
-            } else {
-                None
-            },
-            Slot::Location => if is(TokenKind::Name, t) && Reg::of(spelled(bytes, t)).is_none() {
-                Some(Found {
-                    location: Span {
-                        from: t.from,
-                        to: t.to,
-                    },
-                    ..found
-                })
-            } else {
-                None
-            },
-            Slot::Register => {
-                if !is(TokenKind::Name, t) {
-                    return None;
-                }
-                match Reg::of(spelled(bytes, t)) {
-                    None => None,
-                    Some(register) => Some(Found { register, ..found }),
-                }
-            }
-            Slot::Any => if is(TokenKind::Number, t) {
-                Some(Found {
-                    number: value(spelled(bytes, t)),
-                    ..found
-                })
-            } else {
-                None
-            },
-            Slot::Small => {
-                if !is(TokenKind::Number, t) {
-                    return None;
-                }
-                let small = value(spelled(bytes, t));
-                if small < 1 << 32 {
-                    Some(Found {
-                        small: small as u32,
-                        ..found
-                    })
-                } else {
-                    None
-                }
-            }
-            Slot::Thread => {
-                if !is(TokenKind::Number, t) {
-                    return None;
-                }
-                let thread = value(spelled(bytes, t));
-                if thread < 1 << 32 {
-                    Some(Found {
-                        thread: thread as u32,
-                        ..found
-                    })
-                } else {
-                    None
-                }
-            }
+            Slot::Mark(kind) | Slot::Maybe(kind) => is(kind, t).then_some(found),
+            Slot::Word(word) => is_keyword(bytes, word, t).then_some(found),
+            Slot::Location => Some(Found {
+                location: location(bytes, t)?,
+                ..found
+            }),
+            Slot::Register => Some(Found {
+                register: register(bytes, t)?,
+                ..found
+            }),
+            Slot::Any => Some(Found {
+                number: number(bytes, t)?,
+                ..found
+            }),
+            Slot::Small => Some(Found {
+                small: small_number(bytes, t)?,
+                ..found
+            }),
+            Slot::Thread => Some(Found {
+                thread: small_number(bytes, t)?,
+                ..found
+            }),
         }
     }
 
