@@ -43,6 +43,12 @@ comma = Mark Comma ∷ []
 abbrev row : List Slot → (Found → Form) → Row Form
 row slots means = record { slots = slots; means = means }
 
+-- the forms of an exchange, whose operands may stand in either order
+abbrev pub exchange_rows : List (Row Form)
+exchange_rows =
+    row (Word Xchg ∷ bracketed ++ comma ++ Register ∷ []) (λ f. Exchange f.location f.register) ∷
+    row (Word Xchg ∷ Register ∷ comma ++ bracketed) (λ f. Exchange f.location f.register) ∷ []
+
 -- the forms of cells
 abbrev pub cell_rows : List (Row Form)
 cell_rows =
@@ -52,8 +58,7 @@ cell_rows =
     row (Word Mov ∷ Register ∷ comma ++ bracketed) (λ f. Load f.register f.location) ∷
     row (Word Mov ∷ Register ∷ comma ++ numeral) (λ f. Constant f.register f.number) ∷
     row (Word Mfence ∷ []) (λ f. Fence) ∷
-    row (Word Xchg ∷ bracketed ++ comma ++ Register ∷ []) (λ f. Exchange f.location f.register) ∷
-    row (Word Xchg ∷ Register ∷ comma ++ bracketed) (λ f. Exchange f.location f.register) ∷ []
+    exchange_rows
 
 -- the numeral fits 32 bits
 abbrev pub is_small : Form → Bool

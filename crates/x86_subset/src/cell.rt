@@ -1,8 +1,8 @@
 // The cells of the code.
-ghost use Rattle.std.specs.Prelude.{◌≡◌, ◌^◌, nat_lt, if◌then◌else◌, Ok, Err};
+ghost use Rattle.std.specs.Prelude.{◌≡◌, ◌^◌, nat_lt, if◌then◌else◌, Ok, Err, option_map};
 ghost use Rattle.x86_subset.specs.declared.cell.InstrError.TheVariants.{Number};
-ghost use Rattle.x86_subset.specs.Form.{lexemes, Gives};
-ghost use Rattle.x86_subset.specs.Cell.{begins_instr, parse};
+ghost use Rattle.x86_subset.specs.Form.{lexemes, meaning, Gives};
+ghost use Rattle.x86_subset.specs.Cell.{begins_instr, exchange_rows, parse};
 ghost use Rattle.x86_subset.specs.Raw.{form_of};
 
 use crate::form::{Keyword, Slot, Span, is_keyword, whole};
@@ -119,6 +119,21 @@ fn small(number: u64) -> Result<u32, InstrError>
     }
 }
 
+// What the tokens of a cell say that is an exchange, with its operands in either order.
+#[tactic(auto, unfolding(crate::specs::Form::meaning))]
+fn exchange(bytes: &[u8], cell: &[Token]) -> Option<Raw>
+    ensures { option_map (form_of bytes.now) result ≡ meaning exchange_rows (lexemes bytes.now cell.now) }
+{
+    let found = match whole(bytes, &EXCHANGE, cell) {
+        Some(found) => found,
+        None => whole(bytes, &EXCHANGE_BACK, cell)?,
+    };
+    Some(Raw::Exchange {
+        loc: found.location,
+        reg: found.register,
+    })
+}
+
 /// What the tokens of a cell of `bytes` say, or why they say nothing. Takes no memory.
 #[tactic(auto, unfolding(crate::specs::Cell::parse, crate::specs::Form::meaning))]
 pub fn parse_instr(bytes: &[u8], cell: &[Token]) -> Result<Raw, InstrError>
@@ -154,17 +169,8 @@ pub fn parse_instr(bytes: &[u8], cell: &[Token]) -> Result<Raw, InstrError>
     if whole(bytes, &FENCE, cell).is_some() {
         return Ok(Raw::Fence);
     }
-    if let Some(found) = whole(bytes, &EXCHANGE, cell) {
-        return Ok(Raw::Exchange {
-            loc: found.location,
-            reg: found.register,
-        });
-    }
-    if let Some(found) = whole(bytes, &EXCHANGE_BACK, cell) {
-        return Ok(Raw::Exchange {
-            loc: found.location,
-            reg: found.register,
-        });
+    if let Some(raw) = exchange(bytes, cell) {
+        return Ok(raw);
     }
     Err(if begins_instr(bytes, cell) {
         InstrError::Operand
