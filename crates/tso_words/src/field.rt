@@ -72,8 +72,12 @@ impl Model for Field {
 }
 
 impl Field {
-    /// A new field.
-    pub fn new(alloc: Global) -> Result<Field, NoMemory> {
+    /// A new field: sixteen words of 0, all eight numbers at home, and no step taken. That its words are 0 and its lists are empty holds of
+    /// every `Field`, as `fresh` of `parts` and `still` of `close` say. `Err` where memory is refused (no clause says when); of the other calls
+    /// of this crate only `Traced::reserve` can fail.
+    pub fn new(alloc: Global) -> Result<Field, NoMemory>
+        ensures made { IfOk result (λ field. (field.words ≡ word_count) × (field.slots ≡ 0)) }
+    {
         let (table, seat) = Table::of_words(alloc, &[0; WORD_COUNT], &())?;
         Ok(Field {
             words: Words { table },
