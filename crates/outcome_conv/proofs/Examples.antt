@@ -25,7 +25,7 @@ use Rattle.profile_check.specs.declared.kind.AtomKind.{AtomKind}
 use Rattle.profile_check.specs.declared.kind.AtomKind.TheVariants.{Rf, Fr, Exact}
 use Rattle.profile_check.specs.declared.kind.ProfileKind.TheVariants.{NoSuchThread, NotLoaded, NoStore, Ambiguous, ZeroStored, NoWriter, SeveralWriters, OwnWriter}
 use Rattle.outcome_conv.specs.declared.cond.CondKind.TheVariants.{AtLeast, Below, Exact as Equal}
-use Rattle.outcome_conv.specs.Conds.{Logged, cond_of, conds_of, count_of, kind_holds, logged_in}
+use Rattle.outcome_conv.specs.Conds.{Logged, cond_holds, cond_of, conds_of, count_of, kind_holds, logged_in}
 use Rattle.outcome_conv.specs.Hits.{hits_of}
 use Rattle.outcome_conv.specs.Holds.{holds_in}
 use Rattle.outcome_conv.specs.Picks.{link_by, picked_hits_by, picked_hits, picked_frame}
@@ -277,3 +277,25 @@ sb_holds_reads = All-from_recursion (λ (c : Code). AreHeld c.actions c.register
   where
     held_in : (stored loaded : ℕ) → AreHeld (body stored loaded).actions (body stored loaded).registers
     held_in stored loaded = All-from_recursion (IsHeld (body stored loaded).actions) (body stored loaded).registers (refl, (tt, (tt, (tt, (tt, (tt, tt))))))
+
+-- Runs and numbers agree where a value is next to a condition's bound, and where another store's value lies above it.
+
+-- one iteration in order: thread 1 reads x behind the write of 1, and 1 is the bound 1*0 + 1
+abbrev in_order : List Event
+in_order = at 0 0 0 Push ∷ at 0 0 0 Drain ∷ at 0 0 1 (Read 0) ∷ at 1 0 0 Push ∷ at 1 0 0 Drain ∷ at 1 0 1 (Read 1) ∷ []
+
+at_the_bound : (holds_in sb in_order (0 ∷ 0 ∷ []) (Fr 1 0 0) ≡ false) × (cond_holds (logged_in sb in_order) (0 ∷ 0 ∷ []) (cond_of sb (Fr 1 0 0)) ≡ false)
+at_the_bound = (refl, refl)
+
+none_in_order : (hits_of sb sb_kinds 1 in_order ≡ []) × (count_of (logged_in sb in_order) sb.ends (conds_of sb sb_kinds) 1 2 ≡ 0)
+none_in_order = (refl, refl)
+
+-- threads 0 and 1 write 1 and 2 to x, and thread 2 reads 2: it reads from thread 1 and not from thread 0, though 2 is above 1
+abbrev of_the_second : List Event
+of_the_second = at 0 0 0 Push ∷ at 0 0 0 Drain ∷ at 1 0 0 Push ∷ at 1 0 0 Drain ∷ at 2 0 0 (Read 2) ∷ []
+
+not_of_the_first : (holds_in (writers 1 2) of_the_second (0 ∷ 0 ∷ 0 ∷ []) (Rf 2 0 0 0) ≡ false) × (cond_holds (logged_in (writers 1 2) of_the_second) (0 ∷ 0 ∷ 0 ∷ []) (cond_of (writers 1 2) (Rf 2 0 0 0)) ≡ false)
+not_of_the_first = (refl, refl)
+
+but_of_the_second : (holds_in (writers 1 2) of_the_second (0 ∷ 0 ∷ 0 ∷ []) (Rf 2 0 1 0) ≡ true) × (cond_holds (logged_in (writers 1 2) of_the_second) (0 ∷ 0 ∷ 0 ∷ []) (cond_of (writers 1 2) (Rf 2 0 1 0)) ≡ true)
+but_of_the_second = (refl, refl)
