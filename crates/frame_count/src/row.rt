@@ -91,7 +91,31 @@ fn some_word(conds: &Conds, logs: &Logs, frame: &Frame, stretches: &[Stretch], a
     word
 }
 
-/// At how many iterations from `from` up to and without `to` the conditions of some conjunction hold.
+/// At how many iterations from `from` up to and without `to` the conditions of some conjunction hold, one by one.
+fn count_singly(
+    conds: &Conds,
+    logs: &Logs,
+    frame: &Frame,
+    stretches: &[Stretch],
+    from: usize,
+    to: usize,
+) -> u64
+    requires frame { (n : ℕ) × (from ≤ to) × (to ≤ n) × IsFrameOf logs.now.logs n frame.now }
+    requires names { All (IsOfLogs logs.now.logs) conds.now.conds }
+    requires each { length conds.now.ends ≤ length stretches.now }
+    requires stretches { (c : ℕ) (d : Stretch) → c < length conds.now.ends → Leaves to logs.now.logs frame.now (conjunction_of conds.now.ends conds.now.conds c) (slice_index_or stretches.now c d) }
+    ensures { result ≡ count_by (λ m. frame_holds conds.now logs.now.logs (with_last frame.now m)) (range_with_len from (to - from)) }
+{
+    let mut total = 0u64;
+    let mut at = from;
+    while at < to {
+        total += some_at(conds, logs, frame, stretches, at as u32) as u64;
+        at += 1;
+    }
+    total
+}
+
+/// The same by words of sixty-four, and the rest one by one.
 fn count_between(
     conds: &Conds,
     logs: &Logs,
@@ -112,11 +136,7 @@ fn count_between(
         total += some_word(conds, logs, frame, stretches, at).count_ones() as u64;
         at += 64;
     }
-    while at < to {
-        total += some_at(conds, logs, frame, stretches, at as u32) as u64;
-        at += 1;
-    }
-    total
+    total + count_singly(conds, logs, frame, stretches, at, to)
 }
 
 /// At how many iterations of the last thread from `from` up to and without `to`, with the frame's iterations of the others, the

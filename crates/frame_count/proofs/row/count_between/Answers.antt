@@ -1,10 +1,9 @@
-use Rattle.std.proofs.Common.{◌≡◌, ℕ, ◌-◌, Bool, count_by, ap, ◌∙◌, arith}
-use mir.Val.{bool_byte}
+use Rattle.std.proofs.Common.{◌≡◌, ℕ, ◌+◌, ◌-◌, Bool, count_by, ap, ◌∙◌, arith}
 use Rattle.std.specs.Int.RustNames.{count_ones}
 use Rattle.std.specs.List.{range_with_len}
 use Rattle.frame_count.specs.Count.{frame_holds, with_last}
 use Rattle.frame_count.proofs.Along.{along_ones}
-use Rattle.frame_count.proofs.Counts.{byte_one, count_bound, count_join}
+use Rattle.frame_count.proofs.Counts.{count_bound, count_join}
 use Rattle.frame_count.proofs.row.count_between.Goals as goal
 
 pub overflow_add-total : goal.overflow_add-total
@@ -23,21 +22,18 @@ loop-at-preserved c = record {
   total = count_join _ c.args.from c.loop-at.at 64 _ _ c.loop-at.invariant.low c.loop-at.invariant.total (ap count_ones c.some_word.ensures ∙ along_ones _ c.loop-at.at 64);
 }
 
-pub overflow_add-total-in-loop-at-2 : goal.overflow_add-total-in-loop-at-2
-overflow_add-total-in-loop-at-2 c =
+pub overflow_add-result : goal.overflow_add-result
+overflow_add-result c =
     let p : ℕ → Bool = λ m. frame_holds c.args.conds.now c.args.logs.now.logs (with_last c.args.frame.now m) in
-    let h = count_bound p c.args.from (c.loop-at-2.at - c.args.from) in
-    let e = count_bound p c.loop-at-2.at 1 in
-    let k : bool_byte c.some_at.result ≡ count_by p (range_with_len c.loop-at-2.at 1) = ap bool_byte c.some_at.ensures ∙ byte_one p c.loop-at-2.at in
-    let t = c.loop-at-2.invariant.total in
+    let h = count_bound p c.args.from (c.loop-at.at - c.args.from) in
+    let e = count_bound p c.loop-at.at (c.args.to - c.loop-at.at) in
+    let t = c.loop-at.invariant.total in
+    let rest = c.count_singly.ensures in
     record { fits = omega arith }
 
-pub loop-at-2-preserved : goal.loop-at-2-preserved
-loop-at-2-preserved c =
-    let p : ℕ → Bool = λ m. frame_holds c.args.conds.now c.args.logs.now.logs (with_last c.args.frame.now m) in
-    let one : bool_byte c.some_at.result ≡ count_by p (range_with_len c.loop-at-2.at 1) = ap bool_byte c.some_at.ensures ∙ byte_one p c.loop-at-2.at in
-    record {
-      low = omega arith;
-      high = omega arith;
-      total = count_join _ c.args.from c.loop-at-2.at 1 _ _ c.loop-at-2.invariant.low c.loop-at-2.invariant.total one;
-    }
+pub returns : goal.returns
+returns c =
+    let high = c.loop-at.invariant.high in
+    let end : c.loop-at.at + (c.args.to - c.loop-at.at) - c.args.from ≡ c.args.to - c.args.from = omega arith in
+    count_join _ c.args.from c.loop-at.at (c.args.to - c.loop-at.at) _ _ c.loop-at.invariant.low c.loop-at.invariant.total c.count_singly.ensures
+    ∙ ap (λ n. count_by (λ m. frame_holds c.args.conds.now c.args.logs.now.logs (with_last c.args.frame.now m)) (range_with_len c.args.from n)) end

@@ -12,13 +12,3 @@ invariant-loop-at l = record {
 
 abbrev pub decreases-loop-at : goal.decreases-loop-at
 decreases-loop-at l = l.to - l.at
-
-abbrev pub invariant-loop-at-2 : goal.invariant-loop-at-2
-invariant-loop-at-2 l = record {
-  low : l.from ≤ l.at;
-  high : l.at ≤ l.to;
-  total : l.total ≡ count_by (λ m. frame_holds l.conds l.logs.logs (with_last l.frame m)) (range_with_len l.from (l.at - l.from));
-}
-
-abbrev pub decreases-loop-at-2 : goal.decreases-loop-at-2
-decreases-loop-at-2 l = l.to - l.at
