@@ -86,7 +86,7 @@ place_at q (b ∷ body) (suc p) r a e h k =
     rw (sum_by-cons (λ a. cond (is_reading a) 1 0) b (take p body))
     (place_step q (count_by is_reading (take p body)) r (reading_places (q + 1) body) (is_reading b) (place_at (q + 1) body p r a e h (omega arith)))
 
-site_is : (test : LitmusTest) (t column p : ℕ) (action : Instr) → IsReader test t column p action → reading_site test t column ≡ record { thread = t; place = p }
+pub site_is : (test : LitmusTest) (t column p : ℕ) (action : Instr) → IsReader test t column p action → reading_site test t column ≡ record { thread = t; place = p }
 site_is test t column p action r =
     rw (r.column_is) (let e = place_at 0 (body_of test t) p p action r.stands r.reading (omega arith) in rw e refl)
 

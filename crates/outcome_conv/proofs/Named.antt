@@ -38,7 +38,7 @@ before_less p (y ∷ ys) (suc i) x e h =
     let front = sum_by-cons (λ a. cond (p a) 1 0) y (take i ys) in
     omega arith
 
-column_below : (test : LitmusTest) (t column p : ℕ) (action : Instr) → IsReader test t column p action → column < columns_of test t
+pub column_below : (test : LitmusTest) (t column p : ℕ) (action : Instr) → IsReader test t column p action → column < columns_of test t
 column_below test t column p action r = let e = r.column_is in let l = before_less is_reading (body_of test t) p action r.stands r.reading in omega arith
 
 store_below : (test : LitmusTest) (x : ℕ) (s : Site) → Among s (stores_of test x) → s.thread < length test.bodies

@@ -16,10 +16,13 @@ use Rattle.profile_check.specs.Profile.{Profile, inside, outside, profile_of}
 use Rattle.profile_check.specs.Kinds.{kind_number as profile_number}
 use Rattle.command_words.specs.Words.{command_of}
 use Rattle.demo_text.specs.Demo.{demo_text_of}
-use Rattle.perple_core.specs.View.{View}
-use Rattle.perple_core.specs.Due.{Took, Takes, Refused, ReadsSource, IsDue, IsShort, demo_number, over_of, has_too_many_frames, due_for_profile, due_for_reading}
+use Rattle.program_edge.specs.View.{View}
+use Rattle.program_edge.proofs.Bytes.{appended_is, dropped_is, given_bytes, over_is_long}
+use Rattle.program_edge.specs.Form.{over_of}
+use Rattle.program_edge.specs.Field.{IsStill}
+use Rattle.perple_core.specs.Due.{Took, Takes, Refused, ReadsSource, IsDue, IsShort, demo_number, has_too_many_frames, due_for_profile, due_for_reading}
 use Rattle.perple_core.specs.Due.Refused.{no_memory, no_command, no_reading, too_long, no_text}
-use Rattle.perple_core.specs.Top.{Answers, IsStillOrRan, Ended, IsStill, IsText, Accepts, HasAnswer, WritesWhole, WritesPart, Completes, IsUsage, ReadsToEnd, AnswersDue, AnswersTooLong, IsField, Told}
+use Rattle.perple_core.specs.Top.{Answers, IsStillOrRan, Ended, IsText, Accepts, HasAnswer, WritesWhole, WritesPart, Completes, IsUsage, ReadsToEnd, AnswersDue, AnswersTooLong, IsField, Told}
 use Rattle.perple_core.specs.Top.Ended.{ended_refused, ended_whole, ended_part}
 use Rattle.command_words.specs.declared.job.Command.{Command}
 use Rattle.command_words.specs.declared.job.Command.TheVariants.{Run, Replay, Convert, Demo}
@@ -41,14 +44,6 @@ ended_from words old new done out_old out_new untouched (Ok t) status answers _ 
     subst (Ended words old new done out_old out_new untouched) (sym written.0) (ended_part (string_bytes t) answers written.1 written.2)
 ended_from words old new done out_old out_new untouched (Err s) status _ refused still kept _ =
     subst (Ended words old new done out_old out_new untouched) (sym kept.0) (ended_refused s refused still kept.1)
-
--- a source that tells its bytes gave them
-pub given_bytes : (old new : Option (List ℕ)) (bytes given : List ℕ) → old ≡ Some bytes → GaveAll old new given → given ≡ bytes
-given_bytes None new bytes given told gave = absurd (cc)
-given_bytes (Some left) None bytes given told gave = absurd gave.given
-given_bytes (Some left) (Some rest) bytes given told gave =
-    let same : left ≡ bytes = cc in
-    sym (append-nil given) ∙ ap (λ l. given ++ l) (sym gave.ended) ∙ sym gave.given ∙ same
 
 taken_by : (demo : Option ℕ) (old new : View) (text taken : List ℕ)
     → MatchOption demo (old.bytes ≡ Some text) (λ k. text ≡ demo_text_of k)
@@ -144,11 +139,6 @@ usage_each words old new done out_old out_new untouched _ (ended_refused _ (no_c
 usage_each words old new done out_old out_new untouched _ (ended_refused _ (no_reading command reads rose) ran kept) = λ e. let is : command_of words ≡ Some command = reads.command_is in absurd (cc)
 usage_each words old new done out_old out_new untouched _ (ended_refused _ (too_long command reads over) ran kept) = λ e. let is : command_of words ≡ Some command = reads.command_is in absurd (cc)
 usage_each words old new done out_old out_new untouched _ (ended_refused _ (no_text status command taken took is_due) ran kept) = λ e. let is : command_of words ≡ Some command = took.command_is in absurd (cc)
-
--- a source that tells its bytes and was over the limit had more of them
-over_is_long : (old new : Option (List ℕ)) (bytes : List ℕ) (limit : ℕ) → old ≡ Some bytes → IsOver old new limit → limit < length bytes
-over_is_long None new bytes limit told over = absurd (cc)
-over_is_long (Some left) new bytes limit told over = let same : left ≡ bytes = cc in subst (λ xs. limit < length xs) same over.0
 
 pub usage_of : (words : List (List ℕ)) (old new : View) (done : Closed) (out_old out_new : View) (untouched : Type 0) (status : Status)
     → Ended words old new done out_old out_new untouched status → IsUsage words status
@@ -278,13 +268,6 @@ accepts_text words old new done command text answer IsOn is told answers on =
       is_on = on;
     }
 
-appended_is : (old new : Option (List ℕ)) (before text : List ℕ) → old ≡ Some before → Appends old new text → new ≡ Some (before ++ text)
-appended_is None new before text told appends = absurd (cc)
-appended_is (Some held) None before text told appends = absurd appends
-appended_is (Some held) (Some now) before text told appends =
-    let same : held ≡ before = cc in
-    ap Some (appends ∙ ap (λ l. l ++ text) same)
-
 pub refused_is_no_text : (words : List (List ℕ)) (old new : View) (status : Status) → Refused words old new status
     → (status ≡ Whole → ⊥) × (status ≡ WriteFault → ⊥)
 refused_is_no_text words old new _ no_memory = (λ e. cc, λ e. cc)
@@ -324,12 +307,6 @@ too_long_is_not_taken words old new command taking text taken is none told long 
     let long' : 65536 < length taken = subst (λ (xs : List ℕ). 65536 < length xs) (sym taken_is) long in
     omega arith
 
-dropped_is : (old new : Option (List ℕ)) (text : List ℕ) → old ≡ Some text → IsOver old new 65536 → new ≡ Some (drop 65537 text)
-dropped_is None new text told over = absurd (cc)
-dropped_is (Some left) new text told over =
-    let same : left ≡ text = cc in
-    over.1 ∙ ap (λ xs. Some (drop 65537 xs)) same
-
 pub too_long_of : (words : List (List ℕ)) (old new : View) (done : Closed) (out_old out_new : View) (untouched : Type 0) (status : Status)
     → Ended words old new done out_old out_new untouched status → AnswersTooLong words old new status
 too_long_of words old new done out_old out_new untouched _ (ended_whole text answers written) = λ command bytes is none told long.
@@ -340,6 +317,6 @@ too_long_of words old new done out_old out_new untouched _ (ended_refused _ no_m
 too_long_of words old new done out_old out_new untouched _ (ended_refused _ (no_command nothing same) ran kept) = λ command bytes is none told long. absurd (cc)
 too_long_of words old new done out_old out_new untouched _ (ended_refused _ (no_reading reading reads rose) ran kept) = λ command bytes is none told long. inr (inr (refl, rose))
 too_long_of words old new done out_old out_new untouched _ (ended_refused _ (too_long reading reads over) ran kept) = λ command bytes is none told long.
-    inl (refl, dropped_is old.bytes new.bytes bytes told over)
+    inl (refl, dropped_is old.bytes new.bytes bytes 65536 told over)
 too_long_of words old new done out_old out_new untouched _ (ended_refused _ (no_text status taking taken took is_due) ran kept) = λ command bytes is none told long.
     absurd (too_long_is_not_taken words old new command taking bytes taken is none told long took)

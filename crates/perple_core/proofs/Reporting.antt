@@ -19,11 +19,11 @@ use Rattle.frame_count.proofs.LogsOfRuns.{counts_are_hits_lem}
 use Rattle.heuristic.specs.Steps.{CanPick}
 use Rattle.heuristic.proofs.OfRuns.{listed_are_hits_of_runs_lem}
 use Rattle.perp_loop.specs.Crews.{AreWholeFor}
-use Rattle.perp_loop.specs.Crews.{AreLogsOf as HasValues}
 use Rattle.tso_runs.specs.Fits.{IsWithinLimits}
 use Rattle.tso_runs.specs.declared.options.Options.{Options}
 use Rattle.command_words.specs.declared.job.Count.{Count}
-use Rattle.perple_core.specs.Counting.{CanCountFrames, HasLogs}
+use Rattle.program_edge.specs.Field.{HasLogs}
+use Rattle.perple_core.specs.Counting.{CanCountFrames}
 use Rattle.perple_core.specs.Texts.{asked, asks_exhaustive, asks_heuristic, frame_count_of, hit_count_of, listed_hits_of, most_frames}
 use Rattle.perple_core.proofs.Accepting.{kinds_are}
 
@@ -129,15 +129,3 @@ pub asked_hits : (checked : CheckedTest) (options : Options) (count : Count) (lo
 asked_hits checked options count logs c hits b e is_so is conds listed run has =
     let asks : asks_heuristic count ≡ true = sym e ∙ is_so in
     ap Some (listed ∙ listed_hits_are checked options logs c run is conds has) ∙ sym (ap (λ b. asked b (listed_hits_of checked.test options run)) asks)
-
--- what threads leave are the logs of a run
-pub has_logs : (test : LitmusTest) (n : ℕ) (run : List Event) (logs : List Values) → IsRunOf test n run → HasValues test run logs → AreWholeFor test n logs
-    → HasLogs test n run logs
-has_logs test n run logs is values whole = record {
-  is_run = is;
-  are_logs = record {
-    count = values.count;
-    columns = λ t l. whole.columns t (record { columns = 0; values = []; spare = 0 }) l;
-    values = λ t l. values.values t (record { columns = 0; values = []; spare = 0 }) l;
-  };
-}

@@ -6,9 +6,9 @@ use Rattle.tso_words.specs.Seats.{Ended as Closed}
 use Rattle.load_log.specs.Values.{Values}
 use Rattle.tso_runs.specs.declared.options.Options.{Options}
 use Rattle.tso_runs.specs.declared.schedule.Schedule.{Schedule}
-use Rattle.tso_runs.specs.Fits.{EndsWith, Fits}
+use Rattle.tso_runs.specs.Fits.{Fits}
 use Rattle.tso_runs.specs.Schedule.{IsScheduled}
-use Rattle.tso_runs.proofs.Fitting.{fitting_run, scheduled_run}
+use Rattle.tso_runs.proofs.Fitting.{scheduled_run}
 use Rattle.perp_loop.specs.Crews.{AreWholeFor}
 use Rattle.perp_loop.specs.Crews.{Job as Crew}
 use Rattle.perp_loop.specs.Crews.{AreLogsOf as HasValues}
@@ -21,12 +21,13 @@ use Rattle.command_words.specs.declared.job.Command.{Command}
 use Rattle.command_words.specs.declared.job.Command.TheVariants.{Run, Replay, Demo}
 use Rattle.report_text.specs.Conversion.{ConversionRows, conversion_of}
 use Rattle.convert_rows.specs.Rows.{conversion_rows_of}
-use Rattle.perple_core.specs.Counting.{CanCountFrames, HasLogs}
+use Rattle.perple_core.specs.Counting.{CanCountFrames}
 use Rattle.perple_core.specs.Due.{due_for_profile, due_for_reading, has_too_many_frames}
 use Rattle.perple_core.specs.Texts.{asks_exhaustive, conversion_text_of, demo_options_of, frame_count_of, text_of}
-use Rattle.perple_core.specs.Top.{IsStill, IsTextOfRun, IsTextOfSchedule, SomeRunFits}
+use Rattle.program_edge.specs.Field.{HasLogs, IsStill, SomeRunFits}
+use Rattle.program_edge.proofs.Runs.{HasRunOn, has_logs, logs_of_fitting, some_fits}
+use Rattle.perple_core.specs.Top.{IsTextOfRun, IsTextOfSchedule}
 use Rattle.perple_core.proofs.Accepting.{kinds_are}
-use Rattle.perple_core.proofs.Reporting.{has_logs}
 
 -- ---- frames
 
@@ -92,20 +93,14 @@ text_behind test options schedule front gives (Ok whole) text is e = record {
 }
 text_behind test options schedule front gives (Err e) text is h = tt
 
--- a crew ran on a field that was then closed, and left these logs
-pub record HasRunOn (crew : Crew) (done : Closed) (logs : List Values) : Type 0 where
-  pub some_run : (run : List Event) × Fits crew.test crew.options done.lists run × EndsWith crew.test done.words run
-  pub every : (run : List Event) → Fits crew.test crew.options done.lists run → HasValues crew.test run logs
-  pub whole : AreWholeFor crew.test crew.options.iterations logs
-
 -- the report of a run that threads made
 pub run_text : (test : LitmusTest) (job : Job) (done : Closed) (logs : List Values) (r : Result (String Global) NoMemory)
     → HasRunOn (record { test = test; options = job.options }) done logs
     → IfOk r (λ text. (run : List Event) → HasLogs test job.options.iterations run logs → string_bytes text ≡ text_of test job run)
     → IfOk r (λ text. IsTextOfRun test job done (string_bytes text))
 run_text test job done logs (Ok text) ran h = record {
-  some_run = record { run = ran.some_run.0; fits = ran.some_run.1; ends = ran.some_run.2 };
-  each = λ run fits. h run (has_logs test job.options.iterations run logs (fitting_run test job.options done.lists run fits) (ran.every run fits) ran.whole);
+  some_run = some_fits (record { test = test; options = job.options }) done logs ran;
+  each = λ run fits. h run (logs_of_fitting (record { test = test; options = job.options }) done logs run ran fits);
 }
 run_text test job done logs (Err e) ran h = tt
 
@@ -113,4 +108,4 @@ pub run_made : (test : LitmusTest) (options : Options) (done : Closed) (logs : L
     → HasRunOn (record { test = test; options = options }) done logs
     → OnErr r (IsStill done ⊎ SomeRunFits test options done)
 run_made test options done logs (Ok text) ran = tt
-run_made test options done logs (Err e) ran = inr (record { run = ran.some_run.0; fits = ran.some_run.1; ends = ran.some_run.2 })
+run_made test options done logs (Err e) ran = inr (some_fits (record { test = test; options = options }) done logs ran)

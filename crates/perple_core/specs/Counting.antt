@@ -1,13 +1,9 @@
 -- What ties a test's counters and the logs to the test and to its runs.
 use Rattle.std.specs.Prelude.{◌≡◌, ℕ, ◌≤◌, List, length, true}
 use Rattle.x86_subset.specs.Test.{LitmusTest}
-use Rattle.seq_conv.specs.Event.{Event}
 use Rattle.seq_conv.specs.Numbers.{AreOf}
-use Rattle.seq_conv.specs.Run.{IsRunOf}
 use Rattle.profile_check.specs.Profile.{CheckedTest, IsChecked}
 use Rattle.outcome_conv.specs.Conds.{conds_of}
-use Rattle.load_log.specs.Values.{Values}
-use Rattle.frame_count.specs.RunLogs.{AreLogsOf}
 use Rattle.heuristic.specs.Plan.{plan_of}
 use Rattle.tso_runs.specs.declared.options.Options.{Options}
 use Rattle.tso_runs.specs.Fits.{IsWithinLimits}
@@ -22,11 +18,6 @@ pub record AreCountersOf (checked : CheckedTest) (c : Counters) : Type 0 where
   pub sequences : AreOf checked.test c.sequences
   pub conds : c.conds ≡ record { conds = conds_of checked.test checked.kinds; ends = checked.test.ends }
   pub plan : c.plan ≡ plan_of (length checked.test.bodies) c.conds
-
--- a run of the test's bodies, so often, has these logs
-pub record HasLogs (test : LitmusTest) (n : ℕ) (run : List Event) (logs : List Values) : Type 0 where
-  pub is_run : IsRunOf test n run
-  pub are_logs : AreLogsOf test run logs
 
 -- where the exhaustive count is asked for, there are not too many frames
 abbrev pub CanCountFrames : LitmusTest → Options → Count → Type 0

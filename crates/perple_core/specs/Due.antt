@@ -2,24 +2,21 @@
 use Rattle.std.specs.Prelude.{◌≡◌, ℕ, ◌≤◌, List, length, Bool, false, Some, None, ◌&&◌, nat_lt, if◌then◌else◌, MatchOption}
 use Rattle.std.specs.declared.option.Option.{Option}
 use Rattle.x86_subset.specs.Test.{LitmusTest}
-use Rattle.x86_subset.specs.declared.test.Shape.{Shape}
-use Rattle.x86_subset.specs.declared.test.Shape.TheVariants as shape
-use Rattle.litmus_reader.specs.Answer.{Answer, Accepted, Refused as Unread, Over as TooLarge, kind_number}
+use Rattle.litmus_reader.specs.Answer.{Answer, Accepted, Refused as Unread, Over as TooLarge}
 use Rattle.litmus_reader.specs.Reading.{Reads}
 use Rattle.profile_check.specs.Profile.{Profile, inside, outside, profile_of}
-use Rattle.profile_check.specs.Kinds.{kind_number as profile_number}
 use Rattle.command_words.specs.Words.{command_of}
 use Rattle.command_words.specs.declared.job.Command.{Command}
 use Rattle.command_words.specs.declared.job.Command.TheVariants.{Run, Replay, Convert, Demo}
 use Rattle.demo_text.specs.Demo.{demo_text_of}
-use Rattle.report_text.specs.declared.status.Over.{Over}
-use Rattle.report_text.specs.declared.status.Over.TheVariants.{Input, Threads, Locations, Instructions, Atoms, Frames}
+use Rattle.report_text.specs.declared.status.Over.TheVariants.{Input, Frames}
 use Rattle.report_text.specs.declared.status.Status.{Status}
-use Rattle.report_text.specs.declared.status.Status.TheVariants.{Memory, Usage, ReadFault, NotLitmus, OutsideProfile, Limit}
+use Rattle.report_text.specs.declared.status.Status.TheVariants.{Memory, Usage, ReadFault, Limit}
 use Rattle.perp_base.specs.Bytes.{GaveAll, IsOver}
 use Rattle.perp_base.specs.Causes.{Rose}
 use Rattle.perple_core.specs.Texts.{asks_exhaustive, demo_options_of, frame_count_of, most_frames}
-use Rattle.perple_core.specs.View.{View}
+use Rattle.program_edge.specs.View.{View}
+use Rattle.program_edge.specs.Form.{due_for_atoms, due_for_form}
 
 -- the demo's number
 abbrev pub demo_number : Command → Option ℕ
@@ -27,13 +24,6 @@ demo_number (Run job) = None
 demo_number (Replay job) = None
 demo_number Convert = None
 demo_number (Demo k) = Some k
-
--- the limit of a test that has too much of something
-abbrev pub over_of : Shape → Over
-over_of shape.Threads = Threads
-over_of shape.Locations = Locations
-over_of shape.Instrs = Instructions
-over_of shape.Atoms = Atoms
 
 -- the exhaustive count is asked for, and there are too many frames
 unfoldable pub has_too_many_frames : Command → LitmusTest → Bool
@@ -44,12 +34,12 @@ has_too_many_frames (Demo k) test = nat_lt most_frames (frame_count_of test (dem
 
 abbrev pub due_for_profile : Command → LitmusTest → Profile → Option Status
 due_for_profile command test inside = if has_too_many_frames command test then Some (Limit Frames) else None
-due_for_profile command test (outside atom kind) = Some (OutsideProfile atom (profile_number kind))
+due_for_profile command test (outside atom kind) = due_for_atoms (outside atom kind)
 
 -- the first refusal in the order litmus form, shape, profile, frames
 abbrev pub due_for_reading : Command → Answer → Option Status
-due_for_reading command (Unread refusal) = Some (NotLitmus (kind_number refusal.kind) refusal.line)
-due_for_reading command (TooLarge limit) = Some (Limit (over_of limit))
+due_for_reading command (Unread refusal) = due_for_form (Unread refusal)
+due_for_reading command (TooLarge limit) = due_for_form (TooLarge limit)
 due_for_reading command (Accepted test) = due_for_profile command test (profile_of test)
 
 -- the first refusal that a text within the limit of the input deserves, or none

@@ -5,12 +5,11 @@ use Rattle.std.specs.Io.KnownBytes.{Appends, IsAtEnd}
 use Rattle.std.specs.Str.{IsAscii}
 use Rattle.x86_subset.specs.Test.{LitmusTest}
 use Rattle.seq_conv.specs.Event.{Event}
-use Rattle.tso_words.specs.History.{eight, zeros}
 use Rattle.tso_words.specs.Seats.{Ended as Closed}
 use Rattle.tso_runs.specs.declared.options.Options.{Options}
 use Rattle.tso_runs.specs.declared.schedule.Schedule.{Schedule}
 use Rattle.tso_runs.specs.declared.schedule.Schedule.TheVariants.{Seeded}
-use Rattle.tso_runs.specs.Fits.{Fits, EndsWith}
+use Rattle.tso_runs.specs.Fits.{Fits}
 use Rattle.tso_runs.specs.Schedule.{IsScheduled}
 use Rattle.litmus_reader.specs.Answer.{Accepted}
 use Rattle.litmus_reader.specs.Reading.{Reads}
@@ -25,7 +24,8 @@ use Rattle.report_text.specs.declared.status.Status.TheVariants.{Whole, Memory, 
 use Rattle.report_text.specs.declared.status.Over.TheVariants.{Input, Threads, Locations, Instructions, Atoms, Frames}
 use Rattle.perp_base.specs.Bytes.{AppendsPart}
 use Rattle.perp_base.specs.Causes.{Rose}
-use Rattle.perple_core.specs.View.{View}
+use Rattle.program_edge.specs.View.{View}
+use Rattle.program_edge.specs.Field.{IsStill, SomeRunFits}
 use Rattle.perple_core.specs.Texts.{kinds_of, text_of, conversion_text_of, demo_report_of, demo_options_of, schedule_of}
 use Rattle.perple_core.specs.Due.{Took, Refused, IsDue, IsShort, due_for_reading, demo_number}
 
@@ -37,17 +37,6 @@ IsDemo words = (k : ℕ) × (command_of words ≡ Some (Demo k))
 pub record IsNamedInAscii (test : LitmusTest) : Type 0 where
   pub name : IsAscii test.name
   pub locations : All IsAscii test.locations
-
--- no step was made on the field
-pub record IsStill (done : Closed) : Type 0 where
-  pub steps : done.lists ≡ eight (λ _. [])
-  pub memory : done.words ≡ zeros
-
--- some run fits the test, the options and the steps of the field, and ends with the field's memory
-pub record SomeRunFits (test : LitmusTest) (options : Options) (done : Closed) : Type 0 where
-  pub run : List Event
-  pub fits : Fits test options done.lists run
-  pub ends : EndsWith test done.words run
 
 -- the text is that of every run that fits what the threads did on the field, and some run does
 pub record IsTextOfRun (test : LitmusTest) (job : Job) (done : Closed) (text : List ℕ) : Type 0 where

@@ -2,9 +2,10 @@
 ghost use Rattle.std.specs.Prelude.{◌≡◌, ◌⊎◌, map, IfOk, IfErr, OnErr, string_bytes};
 ghost use Rattle.litmus_reader.specs.Answer.{Accepted};
 ghost use Rattle.report_text.specs.Status.{HasKind};
-ghost use Rattle.perple_core.specs.View.{seen};
+ghost use Rattle.program_edge.specs.View.{seen};
+ghost use Rattle.program_edge.specs.Field.{IsStill};
 ghost use Rattle.perple_core.specs.Due.{Refused, due_for_reading};
-ghost use Rattle.perple_core.specs.Top.{IsDemo, IsNamedInAscii, IsStill, IsText, Answers, RanFor, IsStillOrRan};
+ghost use Rattle.perple_core.specs.Top.{IsDemo, IsNamedInAscii, IsText, Answers, RanFor, IsStillOrRan};
 
 use crate::ask::ask;
 use crate::work::{Worked, work};

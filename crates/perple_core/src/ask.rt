@@ -4,24 +4,20 @@ ghost use Rattle.demo_text.specs.Demo.{demo_text_of};
 ghost use Rattle.litmus_reader.specs.Answer.{Accepted};
 ghost use Rattle.litmus_reader.specs.Reading.{Reads};
 ghost use Rattle.report_text.specs.Status.{HasKind};
-ghost use Rattle.perple_core.specs.Errors.{status_of_text, status_of_test};
 ghost use Rattle.perple_core.specs.Texts.{asks_exhaustive, frame_count_of, most_frames};
-ghost use Rattle.perple_core.specs.View.{seen};
-ghost use Rattle.perple_core.specs.Due.{IsDue, IsShort, demo_number, due_for_reading, has_too_many_frames, over_of, Takes, Refused, IsInputRefusal};
+ghost use Rattle.program_edge.specs.View.{seen};
+ghost use Rattle.perple_core.specs.Due.{IsDue, IsShort, demo_number, due_for_reading, has_too_many_frames, Takes, Refused, IsInputRefusal};
 ghost use Rattle.perple_core.specs.Top.{Accepts, IsDemo, IsNamedInAscii};
 
 use command_words::{Command, Count, Job, WordsError, read_words};
 use demo_text::{demo_iterations, demo_text};
 use frame_count::frames;
-use litmus_reader::{LitmusError, read_litmus};
 use perp_base::{NoMemory, ReadError, Source, read_input};
-use profile_check::{Checked, ProfileError, check};
+use profile_check::Checked;
+use program_edge::{MOST_BYTES, check_test, read_test};
 use report_text::{Over, Status};
 use std::alloc::Global;
-use x86_subset::{Shape, Test};
-
-// The most bytes that a text may have.
-const MOST_BYTES: usize = 65_536;
+use x86_subset::Test;
 
 #[derive(Drop)]
 pub struct Asked {
@@ -35,42 +31,6 @@ fn demo_number_of(command: &Command) -> Option<u64>
     match command {
         Command::Demo(k) => Some(*k),
         Command::Run(_) | Command::Replay(_) | Command::Convert => None,
-    }
-}
-
-fn limit_of(shape: Shape) -> Over
-    ensures { result ≡ over_of shape }
-{
-    match shape {
-        Shape::Threads => Over::Threads,
-        Shape::Locations => Over::Locations,
-        Shape::Instrs => Over::Instructions,
-        Shape::Atoms => Over::Atoms,
-    }
-}
-
-fn text_status(error: LitmusError) -> Status
-    ensures { result ≡ status_of_text error }
-{
-    match error {
-        LitmusError::Bad { kind, line } => Status::NotLitmus {
-            kind: kind.number(),
-            line,
-        },
-        LitmusError::Over(shape) => Status::Limit(limit_of(shape)),
-        LitmusError::Memory => Status::Memory,
-    }
-}
-
-fn test_status(error: ProfileError) -> Status
-    ensures { result ≡ status_of_test error }
-{
-    match error {
-        ProfileError::Outside { atom, kind } => Status::OutsideProfile {
-            atom,
-            kind: kind.number(),
-        },
-        ProfileError::Memory => Status::Memory,
     }
 }
 
@@ -113,14 +73,8 @@ fn accept(alloc: Global, command: &Command, bytes: &[u8]) -> Result<Checked, Sta
     ensures kind { IfErr result HasKind }
     ensures ascii { IfOk result (λ checked. IsNamedInAscii checked.test) }
 {
-    let test = match read_litmus(alloc, bytes) {
-        Ok(test) => test,
-        Err(error) => return Err(text_status(error)),
-    };
-    let checked = match check(alloc, test) {
-        Ok(checked) => checked,
-        Err(error) => return Err(test_status(error)),
-    };
+    let test = read_test(alloc, bytes)?;
+    let checked = check_test(alloc, test)?;
     if has_too_many(command, checked.test()) {
         return Err(Status::Limit(Over::Frames));
     }

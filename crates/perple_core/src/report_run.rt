@@ -47,7 +47,8 @@ fn is_negated_by(quantifier: Quantifier) -> bool
 }
 
 impl Wanted {
-    ghost use Rattle.perple_core.specs.Counting.{AreCountersOf, HasLogs, IsWanted};
+    ghost use Rattle.program_edge.specs.Field.{HasLogs};
+    ghost use Rattle.perple_core.specs.Counting.{AreCountersOf, IsWanted};
 
     // The number of frames, where the exhaustive count is asked for.
     fn frames(&self, checked: &Checked) -> Option<u64>

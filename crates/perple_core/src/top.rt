@@ -1,14 +1,15 @@
 //! The top call.
 ghost use Rattle.std.specs.Prelude.{◌≡◌, map, string_bytes};
 ghost use Rattle.report_text.specs.Status.{line_of};
-ghost use Rattle.perple_core.specs.View.{seen, Wrote};
+ghost use Rattle.program_edge.specs.View.{seen, Wrote};
 ghost use Rattle.perple_core.specs.Top.{IsDemo, Ended, Completes, DemoCompletes, IsUsage, RunReads, RunFits, RunText, WritesWhole, WritesPart, ReadsToEnd, AnswersDue, AnswersTooLong, IsField};
 
 use crate::answer::{Answered, answer};
-use crate::deliver::{put_line, put_text};
+use crate::deliver::deliver;
 use perp_base::{Sink, Source};
 use perp_loop::Gate;
-use report_text::Status;
+use program_edge::put_line;
+use report_text::{Status, refusal_text};
 use std::alloc::Global;
 use std::thread::Threads;
 use tso_words::{Done, Field};
@@ -64,7 +65,7 @@ pub fn perple<R: Threads + Sync, S: Source, O: Sink, E: Sink, G: Gate>(
     ensures line { Wrote (seen E.written E.faults err.old) (seen E.written E.faults err.new) (line_of result.status) }
 {
     let Answered { text, done } = answer(rt, alloc, words, source, field, gate);
-    let status = put_text(&text, out);
-    put_line(&status, err);
+    let status = deliver(&text, out);
+    put_line(refusal_text(&status).bytes(), err);
     Outcome { status, done }
 }

@@ -8,7 +8,8 @@ ghost use Rattle.litmus_reader.specs.Answer.{Accepted};
 ghost use Rattle.perple_core.specs.Counting.{CanCountFrames, IsWanted};
 ghost use Rattle.perple_core.specs.Due.{due_for_reading, has_too_many_frames};
 ghost use Rattle.perple_core.specs.Texts.{conversion_text_of, demo_options_of, demo_report_of, report_rows, schedule_by, schedule_of, text_of};
-ghost use Rattle.perple_core.specs.Top.{IsNamedInAscii, IsStill, IsStillCommand, IsText, IsTextOfRun, IsTextOfSchedule, RanFor, SomeRunFits};
+ghost use Rattle.perple_core.specs.Top.{IsNamedInAscii, IsStillCommand, IsText, IsTextOfRun, IsTextOfSchedule, RanFor};
+ghost use Rattle.program_edge.specs.Field.{IsStill, SomeRunFits};
 
 use crate::counters::Counters;
 use crate::report_run::Wanted;

@@ -22,6 +22,29 @@ impl Model for Line {
 }
 
 impl Line {
+    /// The line of a text, with its end.
+    pub fn of_text(text: &str) -> Line
+        requires { length text.now ≤ 128 }
+        ensures { result ≡ text.now }
+    {
+        let mut line = ArrayString::new();
+        line.push_str(text);
+        Line { text: line }
+    }
+
+    /// The line of a number between two texts, the second with the line's end.
+    pub fn of_number(before: &str, number: u32, behind: &str) -> Line
+        requires before { length before.now ≤ 40 }
+        requires behind { length behind.now ≤ 40 }
+        ensures { result ≡ before.now ++ decimal number ++ behind.now }
+    {
+        let mut line = ArrayString::new();
+        line.push_str(before);
+        push_number(&mut line, number);
+        line.push_str(behind);
+        Line { text: line }
+    }
+
     /// The bytes of the line, at most 128.
     pub fn bytes(&self) -> &[u8]
         ensures value { result.now ≡ self.now }

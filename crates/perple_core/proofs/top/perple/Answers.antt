@@ -1,3 +1,4 @@
+use Rattle.std.proofs.Common.{◌∙◌}
 use Rattle.perple_core.proofs.Endings.{ended_from, usage_of, completes_of, ends_of, due_of, too_long_of, field_of, whole_of, part_of}
 use Rattle.perple_core.proofs.Headlines.{reads_of, fits_of, texts_of}
 use Rattle.perple_core.proofs.Demos.{demo_completes_of}
@@ -6,7 +7,7 @@ use Rattle.perple_core.proofs.top.perple.Goals as goal
 pub returns-clause-ended : goal.returns-clause-ended
 returns-clause-ended g c =
     ended_from _ _ _ _ _ _ _ c.answer-text.result.text _ c.answer-text.ensures.ok c.answer-text.ensures.err c.answer-text.ensures.done
-    c.put_text-status.ensures.refused c.put_text-status.ensures.text
+    c.deliver-status.ensures.refused c.deliver-status.ensures.text
 
 pub returns-clause-usage : goal.returns-clause-usage
 returns-clause-usage g c = usage_of _ _ _ _ _ _ _ _ (returns-clause-ended g c)
@@ -43,3 +44,6 @@ returns-clause-text g c = texts_of _ _ _ _ _ _ _ _ (returns-clause-ended g c)
 
 pub returns-clause-demo_complete : goal.returns-clause-demo_complete
 returns-clause-demo_complete g c = demo_completes_of _ _ _ _ _ _ _ _ (returns-clause-ended g c)
+
+pub returns-clause-line : goal.returns-clause-line
+returns-clause-line g c = rw (c.bytes.ensures.value ∙ c.refusal_text.ensures) at c.put_line.ensures

@@ -1,0 +1,28 @@
+-- What a call leaves on the field that it was given: nothing, or a run of x86-TSO (Sewell, Sarkar, Owens, Zappa Nardelli and Myreen,
+-- CACM 2010).
+use Rattle.std.specs.Prelude.{◌≡◌, ℕ, List, []}
+use Rattle.x86_subset.specs.Test.{LitmusTest}
+use Rattle.seq_conv.specs.Event.{Event}
+use Rattle.seq_conv.specs.Run.{IsRunOf}
+use Rattle.load_log.specs.Values.{Values}
+use Rattle.frame_count.specs.RunLogs.{AreLogsOf}
+use Rattle.tso_words.specs.History.{eight, zeros}
+use Rattle.tso_words.specs.Seats.{Ended as Closed}
+use Rattle.tso_runs.specs.declared.options.Options.{Options}
+use Rattle.tso_runs.specs.Fits.{Fits, EndsWith}
+
+-- no step was made on the field
+pub record IsStill (done : Closed) : Type 0 where
+  pub steps : done.lists ≡ eight (λ _. [])
+  pub memory : done.words ≡ zeros
+
+-- some run fits the test, the options and the steps of the field, and ends with the field's memory
+pub record SomeRunFits (test : LitmusTest) (options : Options) (done : Closed) : Type 0 where
+  pub run : List Event
+  pub fits : Fits test options done.lists run
+  pub ends : EndsWith test done.words run
+
+-- a run of the test's bodies, so often, has these logs
+pub record HasLogs (test : LitmusTest) (n : ℕ) (run : List Event) (logs : List Values) : Type 0 where
+  pub is_run : IsRunOf test n run
+  pub are_logs : AreLogsOf test run logs

@@ -1,0 +1,24 @@
+//! An answer is written: its text, and the line of its status.
+ghost use Rattle.report_text.specs.Status.{HasKind};
+ghost use Rattle.program_edge.specs.View.{seen, Wrote, WroteAs};
+
+use perp_base::{Sink, write_whole};
+use report_text::Status;
+
+/// Writes the text of an answer to `out`.
+pub fn put_text<O: Sink>(text: &str, out: &mut O) -> Status
+    ensures kind { HasKind result }
+    ensures wrote { WroteAs result (seen O.written O.faults out.old) (seen O.written O.faults out.new) text.now }
+{
+    match write_whole(out, text.as_bytes()) {
+        Ok(()) => Status::Whole,
+        Err(_) => Status::WriteFault,
+    }
+}
+
+/// Writes a line to `err`. A fault of `err` changes nothing else.
+pub fn put_line<E: Sink>(line: &[u8], err: &mut E)
+    ensures { Wrote (seen E.written E.faults err.old) (seen E.written E.faults err.new) line.now }
+{
+    let _ = write_whole(err, line);
+}

@@ -1,0 +1,106 @@
+//! The lines of a section of events.
+ghost use Rattle.std.specs.Prelude.{◌≡◌, ◌<◌, ◌+◌, ◌^◌, length};
+ghost use Rattle.litmus_reader.specs.Front.{words};
+ghost use Rattle.run_text.specs.Events.{event_of, events_of, kind_of, plain_kind, told_of, valued_kind};
+ghost use Rattle.run_text.specs.Answered.{IsAnswer};
+ghost use Rattle.run_text.specs.Lines.{lines_of};
+
+use crate::error::SectionError;
+use crate::event::Told;
+use crate::numbers::{number_in, small_number, thread_of};
+use crate::section::Section;
+use crate::words::{line_len, next_word};
+use run_judge::{RunEvent, RunKind};
+use std::alloc::Global;
+
+/// A kind without a value.
+fn plain_kind(verb: &[u8]) -> Option<RunKind>
+    ensures { result ≡ plain_kind verb.now }
+{
+    if verb == b"push".as_slice() {
+        Some(RunKind::Push)
+    } else if verb == b"drain".as_slice() {
+        Some(RunKind::Drain)
+    } else if verb == b"fence".as_slice() {
+        Some(RunKind::Fence)
+    } else {
+        None
+    }
+}
+
+/// A kind with a value.
+fn valued_kind(verb: &[u8], value: u64) -> Option<RunKind>
+    ensures { result ≡ valued_kind verb.now value }
+{
+    if verb == b"read".as_slice() {
+        Some(RunKind::Read { value })
+    } else if verb == b"exchange".as_slice() {
+        Some(RunKind::Exchange { value })
+    } else {
+        None
+    }
+}
+
+/// The kind that a word and the words behind it tell.
+fn kind_of(verb: &[u8], rest: &[u8]) -> Option<RunKind>
+    ensures { result ≡ kind_of verb.now (words rest.now) }
+{
+    match next_word(rest) {
+        None => plain_kind(verb),
+        Some(value) => match next_word(value.rest) {
+            None => valued_kind(verb, number_in(u64::MAX, value.word)?),
+            Some(_) => None,
+        },
+    }
+}
+
+/// The event that a line tells.
+fn event_at(line: &[u8]) -> Option<RunEvent>
+    ensures { result ≡ event_of (words line.now) }
+{
+    let thread = next_word(line)?;
+    let iteration = next_word(thread.rest)?;
+    let place = next_word(iteration.rest)?;
+    let verb = next_word(place.rest)?;
+    Some(RunEvent {
+        thread: thread_of(thread.word)?,
+        iteration: small_number(iteration.word)?,
+        place: small_number(place.word)?,
+        kind: kind_of(verb.word, verb.rest)?,
+    })
+}
+
+/// What a line says.
+fn told(line: &[u8]) -> Told
+    ensures { result ≡ told_of (words line.now) }
+{
+    match next_word(line) {
+        None => Told::Nothing,
+        Some(_) => match event_at(line) {
+            None => Told::NoForm,
+            Some(event) => Told::One(event),
+        },
+    }
+}
+
+/// The events of the lines of a section. Lines without words are skipped, and the first other line that is no event is told.
+pub fn events(alloc: Global, section: &Section) -> Result<Vec<RunEvent>, SectionError>
+    requires { section.now.line + length section.now.lines.now < 2 ^ 32 }
+    ensures { IsAnswer (λ events. events.items) (events_of section.now.line (lines_of section.now.lines.now)) result }
+{
+    let text = section.lines;
+    let mut events = Vec::new(alloc);
+    let mut at = 0;
+    let mut line = section.line;
+    while at < text.len() {
+        let len = line_len(&text[at..]);
+        match told(&text[at..at + len]) {
+            Told::Nothing => {}
+            Told::One(event) => events.push(event)?,
+            Told::NoForm => return Err(SectionError::Bad { line }),
+        }
+        at += len;
+        line += 1;
+    }
+    Ok(events)
+}

@@ -1,0 +1,113 @@
+-- From the answer of one layer to that of the next.
+use Rattle.std.proofs.Common.{◌≡◌, ◌⊎◌, ℕ, ◌<◌, ◌≤◌, List, length, Some, None, Result, Ok, Err, String, string_bytes, Global, IfOk, IfErr, inl, inr, refl, sym, subst}
+use Rattle.std.specs.declared.option.Option.{Option}
+use Rattle.x86_subset.specs.Test.{LitmusTest}
+use Rattle.tso_words.specs.Seats.{Ended as Closed}
+use Rattle.litmus_reader.specs.Answer.{Accepted}
+use Rattle.litmus_reader.specs.Reading.{Reads}
+use Rattle.report_text.specs.declared.status.Status.{Status}
+use Rattle.report_text.specs.declared.status.Status.TheVariants.{Memory}
+use Rattle.run_text.specs.Sections.{Split}
+use Rattle.program_edge.specs.Field.{IsStill}
+use Rattle.program_edge.specs.Form.{IsUnread}
+use Rattle.program_edge.specs.View.{View}
+use Rattle.tool_core.specs.Words.{command_of}
+use Rattle.tool_core.specs.Due.{IsDue, IsInputRefusal, Refused, Took, due_for_test, parts_of}
+use Rattle.tool_core.specs.Due.IsInputRefusal.{no_memory as input_memory, no_reading as input_reading, too_long as input_long}
+use Rattle.tool_core.specs.Due.Refused.{no_memory, no_reading, too_long, no_input}
+use Rattle.tool_core.specs.Top.{Accepts, Answers, IsAnswer, IsStillOrRan, IsText, Leaves, RanFor}
+use Rattle.tool_core.specs.declared.words.Command.{Command}
+use Rattle.tool_core.specs.declared.status.ToolStatus.{ToolStatus}
+use Rattle.tool_core.specs.declared.status.ToolStatus.TheVariants.{Core}
+use Rattle.tool_core.proofs.Dues.{due_for_text, test_is_due, unread_is_due}
+
+-- ---- a litmus part and its test
+
+pub unread_due : (command : Command) (input : List ℕ) (parts : Split) (status : Status) → parts_of command input ≡ Some parts → length parts.litmus ≤ 65536
+    → (status ≡ Memory) ⊎ IsUnread parts.litmus status → (Core status ≡ Core Memory) ⊎ IsDue command input (Some (Core status))
+unread_due command input parts status e short (inl memory) = inl (subst (λ (s : Status). Core s ≡ Core Memory) (sym memory) refl)
+unread_due command input parts status e short (inr unread) = inr (due_for_text command input parts (Some (Core status)) e short (unread_is_due command parts status unread))
+
+-- what the work on a test and a section promises
+pub record Works (command : Command) (test : LitmusTest) (parts : Split) (done : Closed) (text : Result (String Global) ToolStatus) : Type 0 where
+  pub none_due : IfOk text (λ _. due_for_test command test parts ≡ None)
+  pub right : IfOk text (λ t. IsText command test parts done (string_bytes t))
+  pub err : IfErr text (λ s. (s ≡ Core Memory) ⊎ (due_for_test command test parts ≡ Some s))
+  pub still : IfErr text (λ s. IsStill done ⊎ ((s ≡ Core Memory) × (due_for_test command test parts ≡ None) × RanFor command test done))
+
+-- an input with these parts, which read as this test
+pub record Has (command : Command) (input : List ℕ) (parts : Split) (test : LitmusTest) : Type 0 where
+  pub parts_are : parts_of command input ≡ Some parts
+  pub short : length parts.litmus ≤ 65536
+  pub reading : Reads parts.litmus (Accepted test)
+
+accepts : (command : Command) (input : List ℕ) (parts : Split) (test : LitmusTest) → Has command input parts test → due_for_test command test parts ≡ None
+    → Accepts command input parts test
+accepts command input parts test has none = record { parts_are = has.parts_are; short = has.short; reading = has.reading; none_due = none }
+
+pub answered : (command : Command) (input : List ℕ) (parts : Split) (test : LitmusTest) (done : Closed) (text : Result (String Global) ToolStatus)
+    → Has command input parts test → Works command test parts done text → IfOk text (λ t. IsAnswer command input done (string_bytes t))
+answered command input parts test done (Ok t) has works =
+    record { parts = parts; test = test; accepts = accepts command input parts test has works.none_due; right = works.right }
+answered command input parts test done (Err s) has works = tt
+
+due_by : (command : Command) (input : List ℕ) (parts : Split) (test : LitmusTest) (s : ToolStatus) → Has command input parts test
+    → (s ≡ Core Memory) ⊎ (due_for_test command test parts ≡ Some s) → (s ≡ Core Memory) ⊎ IsDue command input (Some s)
+due_by command input parts test s has (inl memory) = inl memory
+due_by command input parts test s has (inr due) =
+    inr (due_for_text command input parts (Some s) has.parts_are has.short (test_is_due command parts test (Some s) has.reading due))
+
+pub refused : (command : Command) (input : List ℕ) (parts : Split) (test : LitmusTest) (done : Closed) (text : Result (String Global) ToolStatus)
+    → Has command input parts test → Works command test parts done text → IfErr text (λ s. (s ≡ Core Memory) ⊎ IsDue command input (Some s))
+refused command input parts test done (Ok t) has works = tt
+refused command input parts test done (Err s) has works = due_by command input parts test s has works.err
+
+still_or_ran : (command : Command) (input : List ℕ) (parts : Split) (test : LitmusTest) (done : Closed) (s : ToolStatus) → Has command input parts test
+    → IsStill done ⊎ ((s ≡ Core Memory) × (due_for_test command test parts ≡ None) × RanFor command test done) → IsStillOrRan command input done s
+still_or_ran command input parts test done s has (inl still) = inl still
+still_or_ran command input parts test done s has (inr ran) =
+    inr (ran.0, record { parts = parts; test = test; accepts = accepts command input parts test has ran.1; ran = ran.2 })
+
+pub left : (command : Command) (input : List ℕ) (parts : Split) (test : LitmusTest) (done : Closed) (text : Result (String Global) ToolStatus)
+    → Has command input parts test → Works command test parts done text → IfErr text (IsStillOrRan command input done)
+left command input parts test done (Ok t) has works = tt
+left command input parts test done (Err s) has works = still_or_ran command input parts test done s has works.still
+
+-- ---- the words and the input
+
+pub refused_from_input : (words : List (List ℕ)) (old new : View) (command : Command) (status : ToolStatus)
+    → command_of words ≡ Some command → IsInputRefusal old new status → Refused words old new status
+refused_from_input words old new command _ is input_memory = no_memory
+refused_from_input words old new command _ is (input_reading rose) = no_reading (command, is) rose
+refused_from_input words old new command _ is (input_long over) = too_long (command, is) over
+
+-- what a command answers to the input that it took
+pub record AnswersInput (command : Command) (input : List ℕ) (done : Closed) (text : Result (String Global) ToolStatus) : Type 0 where
+  pub ok : IfOk text (λ t. IsAnswer command input done (string_bytes t))
+  pub err : IfErr text (λ s. (s ≡ Core Memory) ⊎ IsDue command input (Some s))
+  pub still : IfErr text (IsStillOrRan command input done)
+
+pub answers_of : (words : List (List ℕ)) (old new : View) (command : Command) (input : List ℕ) (done : Closed) (text : Result (String Global) ToolStatus)
+    → Took words old new command input → AnswersInput command input done text → IfOk text (λ t. Answers words old new done (string_bytes t))
+answers_of words old new command input done (Ok t) took a = record { command = command; input = input; took = took; answer = a.ok }
+answers_of words old new command input done (Err s) took a = tt
+
+refused_by : (words : List (List ℕ)) (old new : View) (command : Command) (input : List ℕ) (s : ToolStatus) → Took words old new command input
+    → (s ≡ Core Memory) ⊎ IsDue command input (Some s) → Refused words old new s
+refused_by words old new command input s took (inl memory) = subst (Refused words old new) (sym memory) no_memory
+refused_by words old new command input s took (inr due) = no_input s command input took due
+
+pub refused_of : (words : List (List ℕ)) (old new : View) (command : Command) (input : List ℕ) (done : Closed) (text : Result (String Global) ToolStatus)
+    → Took words old new command input → AnswersInput command input done text → IfErr text (Refused words old new)
+refused_of words old new command input done (Ok t) took a = tt
+refused_of words old new command input done (Err s) took a = refused_by words old new command input s took a.err
+
+leaves_by : (words : List (List ℕ)) (old new : View) (command : Command) (input : List ℕ) (done : Closed) (s : ToolStatus) → Took words old new command input
+    → IsStillOrRan command input done s → Leaves words old new done s
+leaves_by words old new command input done s took (inl still) = inl still
+leaves_by words old new command input done s took (inr ran) = inr (ran.0, record { command = command; input = input; took = took; ran = ran.1 })
+
+pub leaves_of : (words : List (List ℕ)) (old new : View) (command : Command) (input : List ℕ) (done : Closed) (text : Result (String Global) ToolStatus)
+    → Took words old new command input → AnswersInput command input done text → IfErr text (Leaves words old new done)
+leaves_of words old new command input done (Ok t) took a = tt
+leaves_of words old new command input done (Err s) took a = leaves_by words old new command input done s took a.still

@@ -1,0 +1,149 @@
+-- Each input has one refusal that is due, or none; and which statuses are refusals of an input.
+use Rattle.std.proofs.Common.{◌≡◌, ℕ, ◌<◌, ◌≤◌, Bool, true, false, List, length, Some, None, Result, Ok, Err, nat_lt, if◌then◌else◌, MatchBool, option_map, refl, sym, ap, subst, ◌∙◌, arith}
+use Rattle.std.specs.declared.option.Option.{Option}
+use Rattle.x86_subset.specs.Test.{LitmusTest}
+use Rattle.litmus_reader.specs.Answer.{Answer, Accepted, Refused as Unread, Over as TooLarge}
+use Rattle.litmus_reader.specs.Reading.{Reads}
+use Rattle.litmus_reader.proofs.ReadingLaws.{one_reading}
+use Rattle.profile_check.specs.Profile.{Profile, inside, outside, profile_of}
+use Rattle.report_text.specs.declared.status.Over.TheVariants.{Input}
+use Rattle.report_text.specs.declared.status.Status.{Status}
+use Rattle.report_text.specs.declared.status.Status.TheVariants.{Whole, Memory, Usage, ReadFault, WriteFault, NotLitmus, OutsideProfile, Limit}
+use Rattle.run_text.specs.Events.{events_of}
+use Rattle.run_text.specs.Sections.{Split}
+use Rattle.program_edge.specs.Form.{IsUnread, due_for_atoms, due_for_form}
+use Rattle.tool_core.specs.Due.{IsDue, IsDueForParts, IsDueForText, due_for_events, due_for_lines, due_for_reading, due_for_test, due_for_witness, due_for_writers, first_due, most_events_of, parts_of, section_logs}
+use Rattle.tool_core.specs.declared.words.Command.{Command}
+use Rattle.tool_core.specs.declared.words.Command.TheVariants.{Judge, Order, Witness, Verdict, Skew}
+use Rattle.tool_core.specs.declared.status.ToolStatus.{ToolStatus}
+use Rattle.tool_core.specs.declared.status.ToolStatus.TheVariants.{Core, NoSection, BadLine, TooLong, Events, SeveralWriters}
+
+-- ---- one refusal
+
+one_due_text : (command : Command) (parts : Split) (a b : Option ToolStatus) → IsDueForText command parts a → IsDueForText command parts b → a ≡ b
+one_due_text command parts a b p q =
+    sym p.is ∙ ap (due_for_reading command parts) (sym ((one_reading parts.litmus).1 p.answer p.reads) ∙ (one_reading parts.litmus).1 q.answer q.reads) ∙ q.is
+
+one_due_by : (command : Command) (parts : Split) (long : Bool) (a b : Option ToolStatus)
+    → MatchBool long (a ≡ Some (Core (Limit Input))) (IsDueForText command parts a)
+    → MatchBool long (b ≡ Some (Core (Limit Input))) (IsDueForText command parts b) → a ≡ b
+one_due_by command parts true a b p q = p ∙ sym q
+one_due_by command parts false a b p q = one_due_text command parts a b p q
+
+one_due_parts : (command : Command) (parts : Option Split) (a b : Option ToolStatus) → IsDueForParts command parts a → IsDueForParts command parts b → a ≡ b
+one_due_parts command None a b p q = p ∙ sym q
+one_due_parts command (Some parts) a b p q = one_due_by command parts (nat_lt 65536 (length parts.litmus)) a b p q
+
+pub one_due : (command : Command) (input : List ℕ) (a b : Option ToolStatus) → IsDue command input a → IsDue command input b → a ≡ b
+one_due command input a b p q = one_due_parts command (parts_of command input) a b p q
+
+-- ---- the statuses of an input that is refused
+
+abbrev pub IsOfInput : ToolStatus → Type 0
+IsOfInput (Core Whole) = ⊥
+IsOfInput (Core Memory) = ⊥
+IsOfInput (Core Usage) = ⊥
+IsOfInput (Core ReadFault) = ⊥
+IsOfInput (Core WriteFault) = ⊥
+IsOfInput (Core (NotLitmus kind line)) = Unit {0}
+IsOfInput (Core (OutsideProfile atom kind)) = Unit {0}
+IsOfInput (Core (Limit over)) = Unit {0}
+IsOfInput NoSection = Unit {0}
+IsOfInput (BadLine line) = Unit {0}
+IsOfInput TooLong = ⊥
+IsOfInput Events = Unit {0}
+IsOfInput (SeveralWriters location) = Unit {0}
+
+some_of : (s t : ToolStatus) → Some s ≡ Some t → IsOfInput s → IsOfInput t
+some_of s t e of = let same : s ≡ t = cc in subst IsOfInput same of
+
+-- whatever is due is such a status
+abbrev pub Gives : Option ToolStatus → Type 0
+Gives due = (s : ToolStatus) → due ≡ Some s → IsOfInput s
+
+of_none : Gives None
+of_none s e = absurd (cc)
+
+of_first : (a b : Option ToolStatus) → Gives a → Gives b → Gives (first_due a b)
+of_first None b p q = q
+of_first (Some t) b p q = p
+
+of_lines : {X : Type 0} (r : Result X ℕ) → Gives (due_for_lines r)
+of_lines (Ok x) = of_none
+of_lines (Err line) = λ s e. some_of (BadLine line) s e tt
+
+of_location : (o : Option ℕ) → Gives (option_map SeveralWriters o)
+of_location None = of_none
+of_location (Some x) = λ s e. some_of (SeveralWriters x) s e tt
+
+of_count : (many : Bool) → Gives (if many then Some Events else None)
+of_count true = λ s e. some_of Events s e tt
+of_count false = of_none
+
+of_witness : (test : LitmusTest) (n : ℕ) → Gives (due_for_witness test n)
+of_witness test n = of_first (due_for_writers test) (due_for_events test n) (of_location _) (of_count (nat_lt 1000000 (most_events_of test n)))
+
+of_profile : (profile : Profile) → Gives (option_map Core (due_for_atoms profile))
+of_profile inside = of_none
+of_profile (outside atom kind) = λ s e. some_of (Core (OutsideProfile atom _)) s e tt
+
+of_test : (command : Command) (test : LitmusTest) (parts : Split) → Gives (due_for_test command test parts)
+of_test Judge test parts = of_lines (events_of parts.line parts.lines)
+of_test Order test parts =
+    of_first (due_for_witness test parts.iterations) (due_for_lines (section_logs test parts))
+    (of_witness test parts.iterations) (of_lines (section_logs test parts))
+of_test (Witness n) test parts = of_witness test n
+of_test Verdict test parts = of_profile (profile_of test)
+of_test (Skew n) test parts = of_none
+
+of_reading : (command : Command) (parts : Split) (answer : Answer) → Gives (due_for_reading command parts answer)
+of_reading command parts (Unread refusal) = λ s e. some_of (Core (NotLitmus _ refusal.line)) s e tt
+of_reading command parts (TooLarge limit) = λ s e. some_of (Core (Limit _)) s e tt
+of_reading command parts (Accepted test) = of_test command test parts
+
+of_parts_by : (command : Command) (parts : Split) (long : Bool) (s : ToolStatus)
+    → MatchBool long (Some s ≡ Some (Core (Limit Input))) (IsDueForText command parts (Some s)) → IsOfInput s
+of_parts_by command parts true s due = some_of (Core (Limit Input)) s (sym due) tt
+of_parts_by command parts false s due = of_reading command parts due.answer s due.is
+
+of_parts : (command : Command) (parts : Option Split) (s : ToolStatus) → IsDueForParts command parts (Some s) → IsOfInput s
+of_parts command None s due = some_of NoSection s (sym due) tt
+of_parts command (Some parts) s due = of_parts_by command parts (nat_lt 65536 (length parts.litmus)) s due
+
+pub of_input : (command : Command) (input : List ℕ) (s : ToolStatus) → IsDue command input (Some s) → IsOfInput s
+of_input command input s due = of_parts command (parts_of command input) s due
+
+-- ---- what is due for the parts of an input is due for the input
+
+pub due_without_section : (command : Command) (input : List ℕ) → parts_of command input ≡ None → IsDue command input (Some NoSection)
+due_without_section command input e = subst (λ (p : Option Split). IsDueForParts command p (Some NoSection)) (sym e) refl
+
+long_is : (n : ℕ) → 65536 < n → nat_lt 65536 n ≡ true
+long_is n h = grind (arith)
+
+short_is : (n : ℕ) → n ≤ 65536 → nat_lt 65536 n ≡ false
+short_is n h = grind (arith)
+
+pub due_for_long : (command : Command) (input : List ℕ) (parts : Split) → parts_of command input ≡ Some parts → 65536 < length parts.litmus
+    → IsDue command input (Some (Core (Limit Input)))
+due_for_long command input parts e long =
+    subst (λ (p : Option Split). IsDueForParts command p (Some (Core (Limit Input)))) (sym e) (rw (long_is (length parts.litmus) long) refl)
+
+pub due_for_text : (command : Command) (input : List ℕ) (parts : Split) (due : Option ToolStatus) → parts_of command input ≡ Some parts → length parts.litmus ≤ 65536
+    → IsDueForText command parts due → IsDue command input due
+due_for_text command input parts due e short is =
+    subst (λ (p : Option Split). IsDueForParts command p due) (sym e)
+    (subst (λ (long : Bool). MatchBool long (due ≡ Some (Core (Limit Input))) (IsDueForText command parts due)) (sym (short_is (length parts.litmus) short)) is)
+
+due_of_form : (command : Command) (parts : Split) (answer : Answer) (status : Status) → due_for_form answer ≡ Some status → due_for_reading command parts answer ≡ Some (Core status)
+due_of_form command parts (Unread refusal) status e = ap (option_map Core) e
+due_of_form command parts (TooLarge limit) status e = ap (option_map Core) e
+due_of_form command parts (Accepted test) status e = absurd (cc)
+
+pub unread_is_due : (command : Command) (parts : Split) (status : Status) → IsUnread parts.litmus status → IsDueForText command parts (Some (Core status))
+unread_is_due command parts status unread =
+    record { answer = unread.answer; reads = unread.reads; is = due_of_form command parts unread.answer status unread.is }
+
+pub test_is_due : (command : Command) (parts : Split) (test : LitmusTest) (due : Option ToolStatus) → Reads parts.litmus (Accepted test)
+    → due_for_test command test parts ≡ due → IsDueForText command parts due
+test_is_due command parts test due reads e = record { answer = Accepted test; reads = reads; is = e }

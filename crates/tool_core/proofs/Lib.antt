@@ -1,0 +1,10 @@
+pub mod Dues
+pub mod Endings
+pub mod Answering
+pub mod VerdictSaid
+pub mod SkewOfRuns
+pub mod OneWriter
+pub mod WitnessOfRuns
+pub mod SectionLogs
+pub mod OrderFound
+pub mod ColumnCounts

@@ -1,0 +1,17 @@
+use Rattle.std.proofs.Common.{rules, refl, sym}
+use Rattle.tool_core.specs.Due.Refused.{no_command}
+use Rattle.tool_core.proofs.Answering.{refused_from_input, refused_of}
+use Rattle.tool_core.proofs.answer.answer.Goals as goal
+
+pub returns-in_default-clause-err : goal.returns-in_default-clause-err
+returns-in_default-clause-err g c = rw c.still.ensures.text (no_command (search rules) refl)
+
+pub returns-in-Err-clause-err : goal.returns-in-Err-clause-err
+returns-in-Err-clause-err g c =
+    rw c.still-in-Err.ensures.text (refused_from_input _ _ _ c.in-Some.command c.in-Err.status (sym c.in-Some.ensures.is) c.in-Err.ensures.err)
+
+pub returns-clause-err : goal.returns-clause-err
+returns-clause-err g c =
+    refused_of _ _ _ c.in-Some.command c.deref.result.now c.answer_input.result.done c.answer_input.result.text
+    (record { command_is = sym c.in-Some.ensures.is; gave = rw c.deref.ensures.value c.in-Ok.ensures.ok; short = rw c.deref.ensures.value c.in-Ok.ensures.short })
+    (record { ok = c.answer_input.ensures.ok; err = c.answer_input.ensures.err; still = c.answer_input.ensures.done })

@@ -1,0 +1,41 @@
+use Rattle.std.proofs.Common.{◌∙◌}
+use Rattle.tool_core.proofs.Endings.{completes_of, due_of, ended_from, ends_of, field_of, fits_of, kept_of, part_of, too_long_of, usage_of, whole_of}
+use Rattle.tool_core.proofs.top.tool.Goals as goal
+
+pub returns-clause-ended : goal.returns-clause-ended
+returns-clause-ended g c =
+    ended_from _ _ _ _ _ _ _ c.answer-text.result.text _ c.answer-text.ensures.ok c.answer-text.ensures.err c.answer-text.ensures.done
+    c.deliver-status.ensures.refused c.deliver-status.ensures.text
+
+pub returns-clause-usage : goal.returns-clause-usage
+returns-clause-usage g c = usage_of _ _ _ _ _ _ _ _ (returns-clause-ended g c)
+
+pub returns-clause-complete : goal.returns-clause-complete
+returns-clause-complete g c = completes_of _ _ _ _ _ _ _ _ (returns-clause-ended g c)
+
+pub returns-clause-read : goal.returns-clause-read
+returns-clause-read g c = ends_of _ _ _ _ _ _ _ _ (returns-clause-ended g c)
+
+pub returns-clause-kept : goal.returns-clause-kept
+returns-clause-kept g c = kept_of _ _ _ _ _ _ _ _ (returns-clause-ended g c)
+
+pub returns-clause-due : goal.returns-clause-due
+returns-clause-due g c = due_of _ _ _ _ _ _ _ _ (returns-clause-ended g c)
+
+pub returns-clause-too_long : goal.returns-clause-too_long
+returns-clause-too_long g c = too_long_of _ _ _ _ _ _ _ _ (returns-clause-ended g c)
+
+pub returns-clause-field : goal.returns-clause-field
+returns-clause-field g c = field_of _ _ _ _ _ _ _ _ (returns-clause-ended g c)
+
+pub returns-clause-whole : goal.returns-clause-whole
+returns-clause-whole g c = whole_of _ _ _ _ _ _ _ _ (returns-clause-ended g c)
+
+pub returns-clause-part : goal.returns-clause-part
+returns-clause-part g c = part_of _ _ _ _ _ _ _ _ (returns-clause-ended g c)
+
+pub returns-clause-fits : goal.returns-clause-fits
+returns-clause-fits g c = fits_of _ _ _ _ _ _ _ _ (returns-clause-ended g c)
+
+pub returns-clause-line : goal.returns-clause-line
+returns-clause-line g c = rw (c.bytes.ensures.value ∙ c.line.ensures) at c.put_line.ensures

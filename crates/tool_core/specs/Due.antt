@@ -1,0 +1,153 @@
+-- Which refusal is due for a command and its input: this project's own order of refusals.
+use Rattle.std.specs.Prelude.{◌≡◌, ◌≤◌, ℕ, zero, suc, ◌+◌, ◌*◌, Bool, true, List, [], ◌∷◌, length, codes, map, nat_lt, if◌then◌else◌, Option, None, Some, Result, Ok, Err, option_map, MatchBool, MatchOption}
+use Rattle.std.specs.List.{range_with_len}
+use Rattle.perp_base.specs.Bytes.{GaveAll, IsOver}
+use Rattle.perp_base.specs.Causes.{Rose}
+use Rattle.x86_subset.specs.Test.{LitmusTest, body_of, columns_of}
+use Rattle.load_log.specs.Values.{Values}
+use Rattle.seq_conv.specs.Sequence.{Site, stores_of}
+use Rattle.litmus_reader.specs.Answer.{Answer, Accepted, Refused as Unread, Over as TooLarge}
+use Rattle.litmus_reader.specs.Reading.{Reads}
+use Rattle.profile_check.specs.Kinds.{stand_in}
+use Rattle.profile_check.specs.Profile.{profile_of}
+use Rattle.report_text.specs.declared.status.Over.TheVariants.{Input}
+use Rattle.report_text.specs.declared.status.Status.TheVariants.{Memory, Usage, ReadFault, Limit}
+use Rattle.run_text.specs.Lines.{lines_of}
+use Rattle.run_text.specs.Events.{events_of}
+use Rattle.run_text.specs.Logs.{logs_of}
+use Rattle.run_text.specs.Sections.{Split, split_at}
+use Rattle.perp_loop.specs.Replaying.{sum_below}
+use Rattle.program_edge.specs.View.{View}
+use Rattle.program_edge.specs.Form.{due_for_atoms, due_for_form}
+use Rattle.tool_core.specs.Words.{command_of}
+use Rattle.tool_core.specs.declared.words.Command.{Command}
+use Rattle.tool_core.specs.declared.words.Command.TheVariants.{Judge, Order, Witness, Verdict, Skew}
+use Rattle.tool_core.specs.declared.status.ToolStatus.{ToolStatus}
+use Rattle.tool_core.specs.declared.status.ToolStatus.TheVariants.{Core, NoSection, BadLine, TooLong, Events, SeveralWriters}
+
+-- ---- the parts of an input
+
+-- the first word of the section line, where the command reads a section
+abbrev pub heading_of : Command → Option (List ℕ)
+heading_of Judge = Some (codes "%events")
+heading_of Order = Some (codes "%logs")
+heading_of (Witness n) = None
+heading_of Verdict = None
+heading_of (Skew n) = None
+
+-- without a section the whole input is the litmus part
+abbrev pub all_litmus : List ℕ → Split
+all_litmus input = record { litmus = input; iterations = 0; line = 1; lines = [] }
+
+abbrev pub parts_by : Option (List ℕ) → List ℕ → Option Split
+parts_by None input = Some (all_litmus input)
+parts_by (Some heading) input = split_at heading 1 [] (lines_of input)
+
+-- the litmus part and the section of an input; None where there is no section and the command reads one
+abbrev pub parts_of : Command → List ℕ → Option Split
+parts_of command input = parts_by (heading_of command) input
+
+-- ---- refusals of a test and a section
+
+-- the first of two refusals
+abbrev pub first_due : Option ToolStatus → Option ToolStatus → Option ToolStatus
+first_due None later = later
+first_due (Some status) later = Some status
+
+-- a section whose lines do not all have their form: the first that has not
+abbrev pub due_for_lines : {X : Type 0} → Result X ℕ → Option ToolStatus
+due_for_lines (Ok x) = None
+due_for_lines (Err line) = Some (BadLine line)
+
+-- the logs of a section: one for each thread of the test, of its columns
+abbrev pub section_logs : LitmusTest → Split → Result (List Values) ℕ
+section_logs test parts =
+    logs_of (map (columns_of test) (range_with_len 0 (length test.bodies))) parts.iterations parts.line 0 parts.lines
+
+-- the stores stand in one thread, if there are any
+abbrev pub have_one_writer : List Site → Bool
+have_one_writer [] = true
+have_one_writer (s ∷ ss) = stand_in s.thread ss
+
+-- the first of so many locations, from x on, whose stores stand in several threads
+abbrev pub several_from : LitmusTest → ℕ → ℕ → Option ℕ
+several_from test x zero = None
+several_from test x (suc more) = if have_one_writer (stores_of test x) then several_from test (x + 1) more else Some x
+
+abbrev pub due_for_writers : LitmusTest → Option ToolStatus
+due_for_writers test = option_map SeveralWriters (several_from test 0 (length test.locations))
+
+-- how many events a run of so many iterations has at most: two for each action
+abbrev pub most_events_of : LitmusTest → ℕ → ℕ
+most_events_of test n = 2 * n * sum_below (length test.bodies) (λ t. length (body_of test t))
+
+abbrev pub due_for_events : LitmusTest → ℕ → Option ToolStatus
+due_for_events test n = if nat_lt 1000000 (most_events_of test n) then Some Events else None
+
+-- a run from logs is sought only for such tests
+abbrev pub due_for_witness : LitmusTest → ℕ → Option ToolStatus
+due_for_witness test n = first_due (due_for_writers test) (due_for_events test n)
+
+-- what a command asks of a test and its section
+abbrev pub due_for_test : Command → LitmusTest → Split → Option ToolStatus
+due_for_test Judge test parts = due_for_lines (events_of parts.line parts.lines)
+due_for_test Order test parts =
+    first_due (due_for_witness test parts.iterations) (due_for_lines (section_logs test parts))
+due_for_test (Witness n) test parts = due_for_witness test n
+due_for_test Verdict test parts = option_map Core (due_for_atoms (profile_of test))
+due_for_test (Skew n) test parts = None
+
+-- ---- refusals of an input
+
+-- the first refusal in the order litmus form, shape, and what the command asks
+abbrev pub due_for_reading : Command → Split → Answer → Option ToolStatus
+due_for_reading command parts (Unread refusal) = option_map Core (due_for_form (Unread refusal))
+due_for_reading command parts (TooLarge limit) = option_map Core (due_for_form (TooLarge limit))
+due_for_reading command parts (Accepted test) = due_for_test command test parts
+
+-- the first refusal that a litmus part within its limit deserves, or none
+pub record IsDueForText (command : Command) (parts : Split) (due : Option ToolStatus) : Type 0 where
+  pub answer : Answer
+  pub reads : Reads parts.litmus answer
+  pub is : due_for_reading command parts answer ≡ due
+
+-- before it come a section that is missing, and a litmus part that is too long
+abbrev pub IsDueForParts : Command → Option Split → Option ToolStatus → Type 0
+IsDueForParts command None due = due ≡ Some NoSection
+IsDueForParts command (Some parts) due =
+    MatchBool (nat_lt 65536 (length parts.litmus)) (due ≡ Some (Core (Limit Input))) (IsDueForText command parts due)
+
+-- the first refusal that an input within its limit deserves, or none
+abbrev pub IsDue : Command → List ℕ → Option ToolStatus → Type 0
+IsDue command input due = IsDueForParts command (parts_of command input) due
+
+-- ---- refusals of a call
+
+-- the most bytes of an input
+abbrev pub most_bytes : ℕ
+most_bytes = 16777216
+
+-- the words are this command's, and this is all that the source had left
+pub record Took (words : List (List ℕ)) (old new : View) (command : Command) (input : List ℕ) : Type 0 where
+  pub command_is : command_of words ≡ Some command
+  pub gave : GaveAll old.bytes new.bytes input
+  pub short : length input ≤ most_bytes
+
+-- the words are those of some command
+abbrev pub IsCommand : List (List ℕ) → Type 0
+IsCommand words = (command : Command) × (command_of words ≡ Some command)
+
+-- the causes of the refusals before a run
+pub data Refused (words : List (List ℕ)) (old new : View) : ToolStatus → Type 0 where
+  no_memory : Refused words old new (Core Memory)
+  no_command : command_of words ≡ None → new ≡ old → Refused words old new (Core Usage)
+  no_reading : IsCommand words → Rose old.faults new.faults → Refused words old new (Core ReadFault)
+  too_long : IsCommand words → IsOver old.bytes new.bytes most_bytes → Refused words old new TooLong
+  no_input : (status : ToolStatus) (command : Command) (input : List ℕ) → Took words old new command input
+      → IsDue command input (Some status) → Refused words old new status
+
+-- the causes of the refusals of reading
+pub data IsInputRefusal (old new : View) : ToolStatus → Type 0 where
+  no_memory : IsInputRefusal old new (Core Memory)
+  no_reading : Rose old.faults new.faults → IsInputRefusal old new (Core ReadFault)
+  too_long : IsOver old.bytes new.bytes most_bytes → IsInputRefusal old new TooLong

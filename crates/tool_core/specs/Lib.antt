@@ -1,0 +1,5 @@
+pub mod Status
+pub mod Words
+pub mod Due
+pub mod Texts
+pub mod Top

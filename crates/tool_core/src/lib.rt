@@ -1,0 +1,32 @@
+//! The second program as one call over a source, two sinks and a field: it judges written runs, finds runs and verdicts, and tells how
+//! far apart the threads of a run were.
+//!
+//! The clause `whole` of [`tool`] says what stands on `out` where a command ends whole: the text that `IsText` (`specs/Top`, by the
+//! texts of `specs/Texts`) calls right for the test and the section of the input. The cause of each status is the clause `ended`; its
+//! clauses `usage`, `due` and `too_long` say that each refusal comes exactly where it is due (`specs/Due`), and `complete` that where
+//! none is due and nothing fails the answer is whole, or memory ran out.
+#![tactic(auto)]
+
+mod answer;
+mod deliver;
+mod judging;
+mod ordering;
+mod parts;
+mod running;
+mod skews;
+mod status;
+mod top;
+mod verdicts;
+mod witnessing;
+mod words;
+mod work;
+mod writers;
+
+pub use perp_loop::{Gate, NoGate};
+pub use report_text::{Over, Status};
+pub use status::ToolStatus;
+pub use top::{ToolOutcome, tool};
+pub use tso_words::{Done, Field};
+
+#[cfg(test)]
+mod tests;

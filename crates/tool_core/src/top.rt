@@ -1,0 +1,69 @@
+//! The second program's top call.
+ghost use Rattle.std.specs.Prelude.{◌≡◌, map, string_bytes};
+ghost use Rattle.program_edge.specs.View.{seen, Wrote};
+ghost use Rattle.tool_core.specs.Status.{tool_line};
+ghost use Rattle.tool_core.specs.Top.{Ended, Completes, IsUsage, RunFits, WritesWhole, WritesPart, ReadsToEnd, KeepsSource, AnswersDue, AnswersTooLong, IsField};
+
+use crate::answer::answer;
+use crate::deliver::deliver;
+use crate::status::ToolStatus;
+use crate::work::Answered;
+use perp_base::{Sink, Source};
+use perp_loop::Gate;
+use program_edge::put_line;
+use std::alloc::Global;
+use std::thread::Threads;
+use tso_words::{Done, Field};
+
+/// How a call ended, and the field that it was given, closed.
+#[derive(Drop)]
+pub struct ToolOutcome {
+    pub status: ToolStatus,
+    pub done: Done,
+}
+
+/// Does what the words ask for: reads a litmus test and, where the command has one, a section from the source, and writes the answer to
+/// `out`, or the line of a refusal to `err`.
+///
+/// The words are those after the program's name. The threads of a command that runs the test make all their steps on `field`, which is
+/// new by its type, and call `gate` before each iteration. Each call returns.
+pub fn tool<R: Threads + Sync, S: Source, O: Sink, E: Sink, G: Gate>(
+    rt: &R,
+    alloc: Global,
+    words: &[String],
+    source: &mut S,
+    out: &mut O,
+    err: &mut E,
+    field: Field,
+    gate: &G,
+) -> ToolOutcome
+    // What was written, and what the threads did on the field.
+    ensures whole { WritesWhole (map string_bytes words.now) (seen S.left S.faults source.old) result.done
+        (seen O.written O.faults out.old) (seen O.written O.faults out.new) result.status }
+    ensures part { WritesPart (map string_bytes words.now) (seen S.left S.faults source.old) result.done
+        (seen O.written O.faults out.old) (seen O.written O.faults out.new) result.status }
+    ensures fits { RunFits (map string_bytes words.now) (seen S.left S.faults source.old) result.done result.status }
+    ensures identity { result.done.identity ≡ field }
+
+    // Each status has its cause, and what it leaves on `out` and on the field.
+    ensures ended { Ended (map string_bytes words.now) (seen S.left S.faults source.old) (seen S.left S.faults source.new) result.done
+        (seen O.written O.faults out.old) (seen O.written O.faults out.new) (out.new ≡ out.old) result.status }
+    ensures usage { IsUsage (map string_bytes words.now) result.status }
+    ensures due { AnswersDue (map string_bytes words.now) (seen S.left S.faults source.old) (seen S.left S.faults source.new) result.status }
+    ensures too_long { AnswersTooLong (map string_bytes words.now) (seen S.left S.faults source.old) (seen S.left S.faults source.new) result.status }
+    ensures complete { Completes (map string_bytes words.now) (seen S.left S.faults source.old) (seen S.left S.faults source.new)
+        (seen O.written O.faults out.old) (seen O.written O.faults out.new) result.status }
+
+    // What every command leaves: the source, the field and `err`.
+    ensures read { ReadsToEnd (seen S.left S.faults source.new) result.status }
+    ensures kept { KeepsSource (seen S.left S.faults source.old) (seen S.left S.faults source.new) result.status }
+    ensures field { IsField (map string_bytes words.now) result.done result.status }
+
+    // The line of the status, which is empty for the whole answer.
+    ensures line { Wrote (seen E.written E.faults err.old) (seen E.written E.faults err.new) (tool_line result.status) }
+{
+    let Answered { text, done } = answer(rt, alloc, words, source, field, gate);
+    let status = deliver(&text, out);
+    put_line(status.line().bytes(), err);
+    ToolOutcome { status, done }
+}

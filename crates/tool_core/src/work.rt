@@ -1,0 +1,75 @@
+//! The work of a command on a test and a section: a text or a refusal, and the closed field.
+ghost use Rattle.std.specs.Prelude.{◌≡◌, ◌+◌, ◌<◌, ◌≤◌, ◌^◌, ◌⊎◌, length, IfOk, IfErr, None, Some, Err, string_bytes};
+ghost use Rattle.run_text.specs.Sections.{seen};
+ghost use Rattle.report_text.specs.declared.status.Status.TheVariants.{Memory};
+ghost use Rattle.program_edge.specs.Field.{IsStill};
+ghost use Rattle.tool_core.specs.Due.{due_for_test};
+ghost use Rattle.tool_core.specs.Status.{HasToolKind};
+ghost use Rattle.tool_core.specs.Top.{IsText, RanFor};
+ghost use Rattle.tool_core.specs.Words.{HasIterations};
+
+use crate::judging::judge_section;
+use crate::ordering::order_section;
+use crate::skews::skew_run;
+use crate::status::ToolStatus;
+use crate::verdicts::verdict_on;
+use crate::witnessing::witness_run;
+use crate::words::Command;
+use perp_loop::Gate;
+use run_text::Section;
+use std::alloc::Global;
+use std::thread::Threads;
+use tso_words::{Done, Field};
+use x86_subset::Test;
+
+/// A text or a refusal, and the closed field.
+#[derive(Drop)]
+pub struct Answered {
+    pub text: Result<String, ToolStatus>,
+    pub done: Done,
+}
+
+impl Answered {
+    /// Before the first step on the field.
+    pub fn still(text: Result<String, ToolStatus>, field: Field) -> Answered
+        ensures identity { result.done.identity ≡ field }
+        ensures text { result.text ≡ text }
+        ensures still { IsStill result.done }
+    {
+        Answered {
+            text,
+            done: field.close(),
+        }
+    }
+}
+
+/// The work of a command on a test and a section; or the refusal that is due for them.
+pub fn work<R: Threads + Sync, G: Gate>(
+    rt: &R,
+    alloc: Global,
+    command: &Command,
+    test: Test,
+    section: &Section<'_>,
+    field: Field,
+    gate: &G,
+) -> Answered
+    requires within { HasIterations command.now }
+    requires iterations { section.now.iterations ≤ 100000 }
+    requires line { 1 ≤ section.now.line }
+    requires short { section.now.line + length section.now.lines.now < 2 ^ 32 }
+    ensures identity { result.done.identity ≡ field }
+    ensures none_due { IfOk result.text (λ _. due_for_test command.now test (seen section.now) ≡ None) }
+    ensures right { IfOk result.text (λ text. IsText command.now test (seen section.now) result.done (string_bytes text)) }
+    ensures err { IfErr result.text (λ status. (status ≡ ToolStatus.Core Memory) ⊎ (due_for_test command.now test (seen section.now) ≡ Some status)) }
+    ensures done { IfErr result.text (λ status. IsStill result.done
+        ⊎ ((status ≡ ToolStatus.Core Memory) × (due_for_test command.now test (seen section.now) ≡ None) × RanFor command.now test result.done)) }
+    ensures kind { IfErr result.text HasToolKind }
+{
+    match command {
+        Command::Judge => Answered::still(judge_section(alloc, &test, section), field),
+        Command::Verdict => Answered::still(verdict_on(alloc, test), field),
+        Command::Skew(n) => skew_run(rt, alloc, &test, *n, field, gate),
+        Command::Witness(n) => witness_run(rt, alloc, &test, *n, field, gate),
+        Command::Order => Answered::still(order_section(alloc, &test, section), field),
+    }
+}

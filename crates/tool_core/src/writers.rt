@@ -1,0 +1,85 @@
+//! For which tests a run is sought from logs: where the stores of each location stand in one thread, and a run has not too many events.
+ghost use Rattle.std.specs.Prelude.{◌≡◌, ◌≤◌, ◌*◌, length, nat_lt, IfSome, IsNone};
+ghost use Rattle.x86_subset.specs.Test.{body_of};
+ghost use Rattle.seq_conv.specs.Numbers.{AreOf};
+ghost use Rattle.profile_check.specs.Kinds.{stand_in};
+ghost use Rattle.perp_loop.specs.Replaying.{sum_below};
+ghost use Rattle.run_witness.specs.Order.{HasWriters};
+ghost use Rattle.tool_core.specs.Status.{HasToolKind};
+ghost use Rattle.tool_core.specs.Due.{due_for_witness, have_one_writer, most_events_of, several_from};
+
+use crate::status::ToolStatus;
+use seq_conv::{Sequences, Site};
+use x86_subset::Test;
+
+// The most events of a run that is sought.
+const MOST_EVENTS: u64 = 1_000_000;
+
+// Whether the stores all stand in this thread.
+fn stand_in(thread: u32, sites: &[Site]) -> bool
+    ensures { result ≡ stand_in thread sites.now }
+{
+    sites.iter().all(|site| site.thread == thread)
+}
+
+// Whether the stores stand in one thread, if there are any.
+fn have_one_writer(sites: &[Site]) -> bool
+    ensures { result ≡ have_one_writer sites.now }
+{
+    match sites {
+        [] => true,
+        [first, rest @ ..] => stand_in(first.thread, rest),
+    }
+}
+
+// The first location whose stores stand in several threads.
+fn several_writers(test: &Test, sequences: &Sequences) -> Option<u32>
+    requires { AreOf test.now sequences.now }
+    ensures { result ≡ several_from test.now 0 (length test.now.locations) }
+{
+    let _threads = test.threads();
+    for x in 0..test.locations().len() {
+        if !have_one_writer(sequences.sites(x as u32)) {
+            return Some(x as u32);
+        }
+    }
+    None
+}
+
+// How many actions the bodies have.
+fn action_count(test: &Test) -> u64
+    ensures is { result ≡ sum_below (length test.now.bodies) (λ t. length (body_of test.now t)) }
+    ensures most { result ≤ 128 }
+{
+    let mut actions = 0;
+    for t in 0..test.threads() {
+        actions += test.body(t).len() as u64;
+    }
+    actions
+}
+
+// Whether a run has too many events.
+fn has_many_events(test: &Test, n: u32) -> bool
+    requires { n ≤ 100000 }
+    ensures { result ≡ nat_lt 1000000 (most_events_of test.now n) }
+{
+    2 * u64::from(n) * action_count(test) > MOST_EVENTS
+}
+
+/// The refusal that is due for a test from whose logs a run is sought.
+pub fn witness_refusal(test: &Test, sequences: &Sequences, n: u32) -> Option<ToolStatus>
+    requires sequences { AreOf test.now sequences.now }
+    requires few { n ≤ 100000 }
+    ensures is { result ≡ due_for_witness test.now n }
+    ensures writers { IsNone result → HasWriters test.now }
+    ensures kind { IfSome result HasToolKind }
+{
+    let _threads = test.threads();
+    if let Some(location) = several_writers(test, sequences) {
+        return Some(ToolStatus::SeveralWriters { location });
+    }
+    if has_many_events(test, n) {
+        return Some(ToolStatus::Events);
+    }
+    None
+}
