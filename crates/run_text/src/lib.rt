@@ -16,9 +16,9 @@ mod log_line;
 mod logs;
 mod numbers;
 mod section;
-mod words;
 #[cfg(test)]
 mod tests;
+mod words;
 
 pub use error::SectionError;
 pub use event_lines::events;

@@ -8,7 +8,8 @@ use std::alloc::Global;
 use std::test::Fail;
 
 // The lines of six events of store buffering, with blanks and a line without words.
-const SIX: &[u8] = b"X86 SB\n%events 1\nP0 0 0 push\n\tP0 0  1 read 0\r\n \nP0 0 0 drain\nP1 0 0 push\nP1 000 1 read 1\nP1 0 0 drain";
+const SIX: &[u8] =
+    b"X86 SB\n%events 1\nP0 0 0 push\n\tP0 0  1 read 0\r\n \nP0 0 0 drain\nP1 0 0 push\nP1 000 1 read 1\nP1 0 0 drain";
 
 fn event(thread: u32, place: u32, kind: RunKind) -> RunEvent {
     RunEvent {
@@ -84,13 +85,22 @@ fn lines_without_the_form_of_an_event(rt: HostRuntime) -> Result<(), Fail> {
         (b"%events 1\nP0 0 0 pull", 2),
         (b"\n%events 1\n\n\nP0 0 0 push 1", 5),
         (b"%events 1\nP0 0 0 read\n", 2),
-        (b"%events 1\nP0 0 0 fence\nP0 0 0 exchange 18446744073709551616\n", 3),
-        (b"%events 1\nP0 0 0 exchange 00000000000000000001\nP0 0 0 exchange 000000000000000000001", 3),
+        (
+            b"%events 1\nP0 0 0 fence\nP0 0 0 exchange 18446744073709551616\n",
+            3,
+        ),
+        (
+            b"%events 1\nP0 0 0 exchange 00000000000000000001\nP0 0 0 exchange 000000000000000000001",
+            3,
+        ),
         (b"%events 1\nP4294967295 0 0 push\nP4294967296 0 0 push", 3),
         (b"%events 1\np0 0 0 push", 2),
         (b"%events 1\nP0 0 push", 2),
         (b"%events 1\n%events 1", 2),
-        (b"%events 0\n%events 100001\n%events 1 1\n %events 1x\n%event 1\n", 0),
+        (
+            b"%events 0\n%events 100001\n%events 1 1\n %events 1x\n%event 1\n",
+            0,
+        ),
     ];
     for (text, line) in table {
         let Err(refused) = told(alloc, text)? else {
@@ -103,7 +113,10 @@ fn lines_without_the_form_of_an_event(rt: HostRuntime) -> Result<(), Fail> {
 
 #[test]
 fn what_a_section_line_parts(rt: HostRuntime) -> Result<(), Fail> {
-    let Some(section) = find_section(b"%logs", b"a\nb %logs 2\n%events 3\n %logs\t00002 \r\nP0\n%logs 1\n") else {
+    let Some(section) = find_section(
+        b"%logs",
+        b"a\nb %logs 2\n%events 3\n %logs\t00002 \r\nP0\n%logs 1\n",
+    ) else {
         return Err("there is a section".into());
     };
     assert_eq!(rt; section.iterations, 2);

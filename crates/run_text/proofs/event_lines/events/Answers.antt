@@ -30,12 +30,12 @@ loop-at-preserved c =
       within = w.1;
       line = omega arith;
       left = elim c.match-told.branch [
-        in-Nothing w ↦
-        ap (λ (v : Vec RunEvent Global). onto_all v.items (events_of (line + 1) (lines_of (drop (at + n) text)))) w.events-is
-        ∙ nothing_told text (take (at + n - at) (drop at text)) at n line es _ c.loop-at-test.true c.line_len-len.ensures this w.in-Nothing.ensures c.loop-at.invariant.left |
-        in-One+in_ok-push-in-One w ↦
-        ap (λ (v : Vec RunEvent Global). onto_all v.items (events_of (line + 1) (lines_of (drop (at + n) text)))) w.events-is
-        ∙ ap (λ l. onto_all l (events_of (line + 1) (lines_of (drop (at + n) text)))) w.in_ok-push-in-One.ensures.items
-        ∙ one_told text (take (at + n - at) (drop at text)) at n line es w.in-One.event _ c.loop-at-test.true c.line_len-len.ensures this w.in-One.ensures c.loop-at.invariant.left
+        | in-Nothing w ↦
+            ap (λ (v : Vec RunEvent Global). onto_all v.items (events_of (line + 1) (lines_of (drop (at + n) text)))) w.events-is
+            ∙ nothing_told text (take (at + n - at) (drop at text)) at n line es _ c.loop-at-test.true c.line_len-len.ensures this w.in-Nothing.ensures c.loop-at.invariant.left
+        | in-One+in_ok-push-in-One w ↦
+            ap (λ (v : Vec RunEvent Global). onto_all v.items (events_of (line + 1) (lines_of (drop (at + n) text)))) w.events-is
+            ∙ ap (λ l. onto_all l (events_of (line + 1) (lines_of (drop (at + n) text)))) w.in_ok-push-in-One.ensures.items
+            ∙ one_told text (take (at + n - at) (drop at text)) at n line es w.in-One.event _ c.loop-at-test.true c.line_len-len.ensures this w.in-One.ensures c.loop-at.invariant.left
       ];
     }

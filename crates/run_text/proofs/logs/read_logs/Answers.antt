@@ -39,29 +39,29 @@ loop-at-preserved c =
     let this : take (at + n - at) (drop at text) ≡ take n (drop at text) = ap (λ k. take k (drop at text)) same in
     let told = c.in_ok-said.ensures ∙ ap (λ t. log_line columns k t (words (take (at + n - at) (drop at text)))) c.len.ensures in
     elim c.match-said.branch [
-      in-Nothing u ↦
-      let logs = u.logs-is in
-      record {
-        within = w.1;
-        line = omega arith;
-        low = omega arith;
-        few = let f = i.few in let e = ap (λ (l : Lists). length l.logs) logs in omega arith;
-        room = let f = i.room in let e = ap (λ (l : Lists). l.spare + length l.logs) logs in e ∙ f;
-        left = ap (λ (l : Lists). onto_all l.logs (logs_of columns k (line + 1) (length l.logs) (lines_of (drop (at + n) text)))) logs
-            ∙ nothing_said columns k text (take (at + n - at) (drop at text)) at n line done _ c.loop-at-test.true c.line_len-len.ensures this (sym u.in-Nothing.is ∙ told) i.left;
-      } |
-      in-One u ↦
-      let logs = u.logs-is ∙ u.add.ensures.appended in
-      let here = sym u.in-One.is ∙ told in
-      let within = one_within columns k (length done) (words (take (at + n - at) (drop at text))) u.in-One.log here in
-      let long = length_push done u.in-One.log in
-      record {
-        within = w.1;
-        line = omega arith;
-        low = omega arith;
-        few = let e = ap (λ (l : Lists). length l.logs) logs in omega arith;
-        room = let f = i.room in let e = ap (λ (l : Lists). l.spare + length l.logs) logs in omega arith;
-        left = ap (λ (l : Lists). onto_all l.logs (logs_of columns k (line + 1) (length l.logs) (lines_of (drop (at + n) text)))) logs
-            ∙ one_said columns k text (take (at + n - at) (drop at text)) at n line done u.in-One.log _ c.loop-at-test.true c.line_len-len.ensures this here i.left;
-      }
+      | in-Nothing u ↦
+          let logs = u.logs-is in
+          record {
+            within = w.1;
+            line = omega arith;
+            low = omega arith;
+            few = let f = i.few in let e = ap (λ (l : Lists). length l.logs) logs in omega arith;
+            room = let f = i.room in let e = ap (λ (l : Lists). l.spare + length l.logs) logs in e ∙ f;
+            left = ap (λ (l : Lists). onto_all l.logs (logs_of columns k (line + 1) (length l.logs) (lines_of (drop (at + n) text)))) logs
+                ∙ nothing_said columns k text (take (at + n - at) (drop at text)) at n line done _ c.loop-at-test.true c.line_len-len.ensures this (sym u.in-Nothing.is ∙ told) i.left;
+          }
+      | in-One u ↦
+          let logs = u.logs-is ∙ u.add.ensures.appended in
+          let here = sym u.in-One.is ∙ told in
+          let within = one_within columns k (length done) (words (take (at + n - at) (drop at text))) u.in-One.log here in
+          let long = length_push done u.in-One.log in
+          record {
+            within = w.1;
+            line = omega arith;
+            low = omega arith;
+            few = let e = ap (λ (l : Lists). length l.logs) logs in omega arith;
+            room = let f = i.room in let e = ap (λ (l : Lists). l.spare + length l.logs) logs in omega arith;
+            left = ap (λ (l : Lists). onto_all l.logs (logs_of columns k (line + 1) (length l.logs) (lines_of (drop (at + n) text)))) logs
+                ∙ one_said columns k text (take (at + n - at) (drop at text)) at n line done u.in-One.log _ c.loop-at-test.true c.line_len-len.ensures this here i.left;
+          }
     ]
