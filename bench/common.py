@@ -1,4 +1,4 @@
-"""What the benchmarks share: the built program, and runs of it that are timed."""
+"""What the benchmarks share: the two built programs, and runs of them that are timed."""
 import os
 import subprocess
 import sys
@@ -7,16 +7,18 @@ import time
 
 HERE = os.path.dirname(os.path.abspath(__file__))
 TOP = os.path.dirname(HERE)
-PROGRAM = os.path.join(TOP, "crates", "perple_main", "out", "perple_main")
+PERPLE = os.path.join(TOP, "crates", "perple_main", "out", "perple_main")
+TOOL = os.path.join(TOP, "crates", "tool_main", "out", "tool_main")
+STARTERS = {PERPLE: "perple", TOOL: "perple_tool"}
 
 
-def build():
-    """Has the program built, as its first user would, where it is not there yet."""
-    if os.access(PROGRAM, os.X_OK):
+def build(program=PERPLE):
+    """Has a program built, as its first user would, where it is not there yet."""
+    if os.access(program, os.X_OK):
         return
-    subprocess.run([os.path.join(TOP, "perple"), "convert", "x"],
+    subprocess.run([os.path.join(TOP, STARTERS[program]), "nothing"],
                    stdin=subprocess.DEVNULL, stdout=subprocess.DEVNULL, check=False)
-    if not os.access(PROGRAM, os.X_OK):
+    if not os.access(program, os.X_OK):
         sys.exit("the program is not built")
 
 
@@ -28,8 +30,8 @@ def example(name):
 class Ran:
     """One run: its status, its output and its seconds."""
 
-    def __init__(self, words, text, cores=None, limit=600):
-        command = [PROGRAM] + [str(word) for word in words]
+    def __init__(self, words, text, cores=None, limit=600, program=PERPLE):
+        command = [program] + [str(word) for word in words]
         if cores is not None:
             command = ["taskset", "-c", cores] + command
         before = time.perf_counter()
@@ -50,21 +52,21 @@ class Ran:
         return None
 
 
-def best(words, text, cores=None, times=3):
+def best(words, text, cores=None, times=3, program=PERPLE):
     """The fastest of some runs."""
-    runs = [Ran(words, text, cores) for _ in range(times)]
+    runs = [Ran(words, text, cores, program=program) for _ in range(times)]
     for run in runs:
         if run.status != 0:
             sys.exit("status %d: %s" % (run.status, run.err.decode("ascii", "replace")))
     return min(runs, key=lambda run: run.seconds)
 
 
-def peak(words, text):
+def peak(words, text, program=PERPLE):
     """The most memory that a run had, in KiB, as the system tells it while the run goes on."""
     with tempfile.TemporaryFile() as file:
         file.write(text)
         file.seek(0)
-        child = subprocess.Popen([PROGRAM] + [str(word) for word in words], stdin=file, stdout=subprocess.DEVNULL)
+        child = subprocess.Popen([program] + [str(word) for word in words], stdin=file, stdout=subprocess.DEVNULL)
         most = 0
         while child.poll() is None:
             try:
