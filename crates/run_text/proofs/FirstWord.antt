@@ -34,13 +34,13 @@ found_or_all p xs (Some i) h = (found p xs (Some i) h).1
 words_blank : (b : ℕ) (bs : List ℕ) → is_blank b ≡ true → words (b ∷ bs) ≡ words bs
 words_blank b bs h = ap (filter (λ w. not (length w == 0))) (slice_split-cons_yes is_blank b bs h)
 
-kept : (w : List ℕ) (ws : List (List ℕ)) → 0 < length w → filter (λ w. not (length w == 0)) (w ∷ ws) ≡ w ∷ filter (λ w. not (length w == 0)) ws
+pub kept : (w : List ℕ) (ws : List (List ℕ)) → 0 < length w → filter (λ w. not (length w == 0)) (w ∷ ws) ≡ w ∷ filter (λ w. not (length w == 0)) ws
 kept [] ws h = absurd (omega arith)
 kept (b ∷ bs) ws h =
     let F = filter (λ (w : List ℕ). not (length w == 0)) in
     ap (λ v. cond (not v) ((b ∷ bs) ∷ F ws) (F ws)) (ne_eqb (length (b ∷ bs)) 0 (λ e. absurd (omega arith)))
 
-abbrev is_word_byte : ℕ → Bool
+abbrev pub is_word_byte : ℕ → Bool
 is_word_byte b = not (is_blank b)
 
 skip : (line : List ℕ) → words (drop (position_or_len is_word_byte line) line) ≡ words line

@@ -12,6 +12,7 @@
 mod error;
 mod event;
 mod event_lines;
+mod laws;
 mod log_line;
 mod logs;
 mod numbers;
@@ -22,5 +23,6 @@ mod words;
 
 pub use error::SectionError;
 pub use event_lines::events;
+pub use laws::events_are_read_back;
 pub use logs::read_logs;
 pub use section::{Section, find_section, iterations_in};
