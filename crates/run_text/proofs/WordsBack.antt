@@ -27,7 +27,7 @@ cut w b rest h e =
     ap (filter (λ v. not (length v == 0))) (slice_split_at is_blank w b rest plain e) ∙ kept w (slice_split is_blank rest) h.some
 
 -- what holds of each digit holds of the bytes of a decimal
-by_digits : (p : ℕ → Bool) → ((c : ℕ) → 48 ≤ c → c ≤ 57 → p c ≡ true) → (ds : List ℕ) → AllDigits 10 ds → list_all p ds ≡ true
+pub by_digits : (p : ℕ → Bool) → ((c : ℕ) → 48 ≤ c → c ≤ 57 → p c ≡ true) → (ds : List ℕ) → AllDigits 10 ds → list_all p ds ≡ true
 by_digits p h [] d = refl
 by_digits p h (c ∷ cs) d =
     let r = digit_from_value c d.0 in

@@ -23,6 +23,6 @@ mod words;
 
 pub use error::SectionError;
 pub use event_lines::events;
-pub use laws::events_are_read_back;
+pub use laws::{events_are_read_back, runs_are_read_back, sections_part_inputs};
 pub use logs::read_logs;
 pub use section::{Section, find_section, iterations_in};
