@@ -34,9 +34,9 @@ feed_fed : IsFed (codes "\n")
 feed_fed rest = refl
 
 kind_fed : (k : RunKind) → HasWidth k → IsFed (kind_text k)
-kind_fed Push h rest = refl
-kind_fed Drain h rest = refl
-kind_fed Fence h rest = refl
+kind_fed Push h = λ rest. refl
+kind_fed Drain h = λ rest. refl
+kind_fed Fence h = λ rest. refl
 kind_fed (Read v) h = behind_plain (codes " read ") (decimal v ++ codes "\n") refl (behind_decimal v (codes "\n") h feed_fed)
 kind_fed (Exchange v) h = behind_plain (codes " exchange ") (decimal v ++ codes "\n") refl (behind_decimal v (codes "\n") h feed_fed)
 
