@@ -1,7 +1,7 @@
 //! The sections of an input: where one begins, and what its lines say.
 //!
 //! `find_section` parts an input at its first section line of a heading. Its clause `is` says that what it answers is exactly
-//! `split_at` of the input's lines (`specs/Sections`), so none where no line is a section line. `events` gives the events that the
+//! `split_of` the input (`specs/Sections`), so none where no line is a section line. `events` gives the events that the
 //! lines of a section tell, `read_logs` one log for each thread; their clauses say that the answer is exactly `events_of`
 //! (`specs/Events`) and `logs_of` (`specs/Logs`) of the lines, or want of memory, and so which line is the first without its
 //! form. Lines are numbered through the whole input, and lines without words are skipped.
@@ -10,7 +10,6 @@
 #![tactic(auto)]
 
 mod error;
-mod event;
 mod event_lines;
 mod laws;
 mod log_line;

@@ -147,8 +147,10 @@ fn logs_of_two_threads(rt: HostRuntime) -> Result<(), Fail> {
 #[test]
 fn lines_without_the_form_of_a_log(rt: HostRuntime) -> Result<(), Fail> {
     let alloc = rt.alloc();
-    let table: [(&[u8], u32); 9] = [
+    let table: [(&[u8], u32); 11] = [
         (b"%logs 2\nP0 1 2\nP1 1 2 3 4\n \n", 0),
+        (b"%logs 1\nP00 0\nP1 1 1", 2),
+        (b"%logs 1\nP0 0\nP01 1 1", 3),
         (b"%logs 2\nP0 1 2\nP1 1 2 3\n", 3),
         (b"%logs 2\nP0 1 2 3\nP1 1 2 3 4\n", 2),
         (b"%logs 2\nP1 1 2 3 4\nP0 1 2\n", 2),
