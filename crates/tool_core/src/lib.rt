@@ -10,6 +10,7 @@
 mod answer;
 mod deliver;
 mod judging;
+mod laws;
 mod ordering;
 mod parts;
 mod running;
@@ -22,6 +23,7 @@ mod words;
 mod work;
 mod writers;
 
+pub use laws::written_runs_are_legal;
 pub use perp_loop::{Gate, NoGate};
 pub use report_text::{Over, Status};
 pub use status::ToolStatus;
