@@ -15,7 +15,8 @@ tail_of text at = take (length text - at) (drop at text)
 tail_is : (text : List ℕ) (at : ℕ) → tail_of text at ≡ drop at text
 tail_is text at = take_all (length text - at) (drop at text) (let l = length-drop at text in omega arith)
 
-pub len_within : (text : List ℕ) (at n : ℕ) → at < length text → n ≡ line_end (tail_of text at) → (0 < n) × (at + n ≤ length text)
+pub len_within : (text : List ℕ) (at n : ℕ) → at < length text → n ≡ line_end (tail_of text at)
+    → (0 < n) × (at + n ≤ length text)
 len_within text at n lt e =
     let same = ap length (tail_is text at) in
     let l = length-drop at text in
@@ -23,7 +24,8 @@ len_within text at n lt e =
     (omega arith, omega arith)
 
 -- the lines from a place on: the line there, and those behind it
-pub lines_from : (text : List ℕ) (at n : ℕ) → at < length text → n ≡ line_end (tail_of text at) → lines_of (drop at text) ≡ take n (drop at text) ∷ lines_of (drop (at + n) text)
+pub lines_from : (text : List ℕ) (at n : ℕ) → at < length text → n ≡ line_end (tail_of text at)
+    → lines_of (drop at text) ≡ take n (drop at text) ∷ lines_of (drop (at + n) text)
 lines_from text at n lt e =
     let l = length-drop at text in
     let end : n ≡ line_end (drop at text) = e ∙ ap line_end (tail_is text at) in
@@ -35,11 +37,16 @@ pub record IsLine (text this : List ℕ) (at n : ℕ) : Type 0 where
   len : n ≡ line_end (tail_of text at)
   cut : this ≡ take n (drop at text)
 
-pub line_at : (text : List ℕ) (at n : ℕ) → at < length text → n ≡ line_end (tail_of text at) → IsLine text (take (at + n - at) (drop at text)) at n
-line_at text at n lt e = let same : at + n - at ≡ n = omega arith in record { within = lt; len = e; cut = ap (λ k. take k (drop at text)) same }
+pub line_at : (text : List ℕ) (at n : ℕ) → at < length text → n ≡ line_end (tail_of text at)
+    → IsLine text (take (at + n - at) (drop at text)) at n
+line_at text at n lt e =
+    let same : at + n - at ≡ n = omega arith in
+    record { within = lt; len = e; cut = ap (λ k. take k (drop at text)) same }
 
-pub lines_at : (text this : List ℕ) (at n : ℕ) → IsLine text this at n → lines_of (drop at text) ≡ this ∷ lines_of (drop (at + n) text)
-lines_at text this at n is = lines_from text at n is.within is.len ∙ ap (λ l. l ∷ lines_of (drop (at + n) text)) (sym is.cut)
+pub lines_at : (text this : List ℕ) (at n : ℕ) → IsLine text this at n
+    → lines_of (drop at text) ≡ this ∷ lines_of (drop (at + n) text)
+lines_at text this at n is =
+    lines_from text at n is.within is.len ∙ ap (λ l. l ∷ lines_of (drop (at + n) text)) (sym is.cut)
 
 -- ---- the section of lines, by their first
 
@@ -47,15 +54,18 @@ lines_at text this at n is = lines_from text at n is.within is.len ∙ ap (λ l.
 abbrev one_behind : List ℕ → Split → Split
 one_behind l s = record { litmus = l ++ s.litmus; iterations = s.iterations; line = s.line + 1; lines = s.lines }
 
+-- the section behind the line at place k
+abbrev told_at : List ℕ → List (List ℕ) → ℕ → Option Split
+told_at heading lines k = option_map (parted_at lines k) (iterations_of heading (words (get_or lines k [])))
+
 parted_here : (heading l : List ℕ) (ls : List (List ℕ)) (n : ℕ) → iterations_of heading (words l) ≡ Some n
     → parted heading (l ∷ ls) ≡ Some (record { litmus = []; iterations = n; line = 2; lines = ls })
 parted_here heading l ls n e =
-    let all = l ∷ ls in
-    ap (λ o. option_and_then (λ k. option_map (parted_at all k) (iterations_of heading (words (get_or all k [])))) o)
-    (first_here (is_section_line heading) l ls (ap is_some e))
-    ∙ ap (option_map (parted_at all 0)) e
+    ap (option_and_then (told_at heading (l ∷ ls))) (first_here (is_section_line heading) l ls (ap is_some e))
+    ∙ ap (option_map (parted_at (l ∷ ls) 0)) e
 
-one_on : (l : List ℕ) (ls : List (List ℕ)) (k : ℕ) (o : Option ℕ) → option_map (parted_at (l ∷ ls) (suc k)) o ≡ option_map (one_behind l) (option_map (parted_at ls k) o)
+one_on : (l : List ℕ) (ls : List (List ℕ)) (k : ℕ) (o : Option ℕ)
+    → option_map (parted_at (l ∷ ls) (suc k)) o ≡ option_map (one_behind l) (option_map (parted_at ls k) o)
 one_on l ls k None = refl
 one_on l ls k (Some n) =
     let line : suc k + 2 ≡ k + 2 + 1 = omega arith in
@@ -63,23 +73,22 @@ one_on l ls k (Some n) =
     λ i. Some (record { litmus = l ++ concat (take k ls); iterations = n; line = line i; lines = drop (place i) (l ∷ ls) })
 
 later_by : (heading l : List ℕ) (ls : List (List ℕ)) (o : Option ℕ)
-    → option_and_then (λ k. option_map (parted_at (l ∷ ls) k) (iterations_of heading (words (get_or (l ∷ ls) k [])))) (option_map suc o)
-    ≡ option_map (one_behind l) (option_and_then (λ k. option_map (parted_at ls k) (iterations_of heading (words (get_or ls k [])))) o)
+    → option_and_then (told_at heading (l ∷ ls)) (option_map suc o) ≡ option_map (one_behind l) (option_and_then (told_at heading ls) o)
 later_by heading l ls None = refl
 later_by heading l ls (Some k) = one_on l ls k (iterations_of heading (words (get_or ls k [])))
 
 parted_later : (heading l : List ℕ) (ls : List (List ℕ)) → iterations_of heading (words l) ≡ None
     → parted heading (l ∷ ls) ≡ option_map (one_behind l) (parted heading ls)
 parted_later heading l ls e =
-    ap (λ o. option_and_then (λ k. option_map (parted_at (l ∷ ls) k) (iterations_of heading (words (get_or (l ∷ ls) k [])))) o)
-    (first_later (is_section_line heading) l ls (ap is_some e))
+    ap (option_and_then (told_at heading (l ∷ ls))) (first_later (is_section_line heading) l ls (ap is_some e))
     ∙ later_by heading l ls (position (is_section_line heading) ls)
 
 -- ---- the search from a place on
 
 -- a section of lines, the first of which has this number, behind this text
 abbrev pub behind : ℕ → List ℕ → Split → Split
-behind line front s = record { litmus = front ++ s.litmus; iterations = s.iterations; line = line + s.line - 1; lines = s.lines }
+behind line front s =
+    record { litmus = front ++ s.litmus; iterations = s.iterations; line = line + s.line - 1; lines = s.lines }
 
 pub all_before : (o : Option Split) → option_map (behind 1 []) o ≡ o
 all_before None = refl
@@ -87,7 +96,8 @@ all_before (Some s) =
     let line : 1 + s.line - 1 ≡ s.line = omega arith in
     λ i. Some (record { litmus = s.litmus; iterations = s.iterations; line = line i; lines = s.lines })
 
-one_more_behind : (line : ℕ) (front l : List ℕ) (o : Option Split) → option_map (behind line front) (option_map (one_behind l) o) ≡ option_map (behind (line + 1) (front ++ l)) o
+one_more_behind : (line : ℕ) (front l : List ℕ) (o : Option Split)
+    → option_map (behind line front) (option_map (one_behind l) o) ≡ option_map (behind (line + 1) (front ++ l)) o
 one_more_behind line front l None = refl
 one_more_behind line front l (Some s) =
     let number : line + (s.line + 1) - 1 ≡ line + 1 + s.line - 1 = omega arith in
@@ -100,7 +110,8 @@ from_place heading text line at = option_map (behind line (take at text)) (parte
 
 pub section_here : (heading text this : List ℕ) (at n line it : ℕ) (all : Option Split) → IsLine text this at n
     → Some it ≡ iterations_of heading (words this) → from_place heading text line at ≡ all
-    → Some (record { litmus = take at text; iterations = it; line = line + 1; lines = lines_of (tail_of text (at + n)) }) ≡ all
+    → Some (record { litmus = take at text; iterations = it; line = line + 1; lines = lines_of (tail_of text (at + n)) })
+    ≡ all
 section_here heading text this at n line it all is e left =
     let ls = lines_of (drop (at + n) text) in
     let found : from_place heading text line at ≡ Some (behind line (take at text) (record { litmus = []; iterations = it; line = 2; lines = ls }))
@@ -108,20 +119,23 @@ section_here heading text this at n line it all is e left =
     ∙ ap (option_map (behind line (take at text))) (parted_here heading this ls it (sym e)) in
     let front : take at text ≡ take at text ++ [] = sym (append-nil (take at text)) in
     let number : line + 1 ≡ line + 2 - 1 = omega arith in
-    (λ i. Some (record { litmus = front i; iterations = it; line = number i; lines = lines_of (tail_is text (at + n) i) })) ∙ sym found ∙ left
+    let rest = tail_is text (at + n) in
+    (λ i. Some (record { litmus = front i; iterations = it; line = number i; lines = lines_of (rest i) })) ∙ sym found ∙ left
 
 pub section_later : (heading text this : List ℕ) (at n line : ℕ) (all : Option Split) → IsLine text this at n
     → None ≡ iterations_of heading (words this) → from_place heading text line at ≡ all
     → from_place heading text (line + 1) (at + n) ≡ all
 section_later heading text this at n line all is e left =
     let ls = lines_of (drop (at + n) text) in
-    let front : take (at + n) text ≡ take at text ++ this = take-add at n text ∙ ap (λ l. take at text ++ l) (sym is.cut) in
+    let front : take (at + n) text ≡ take at text ++ this
+    = take-add at n text ∙ ap (λ l. take at text ++ l) (sym is.cut) in
     ap (λ front. option_map (behind (line + 1) front) (parted heading ls)) front
     ∙ sym (one_more_behind line (take at text) this (parted heading ls))
     ∙ sym (ap (option_map (behind line (take at text))) (parted_later heading this ls (sym e)))
     ∙ sym (ap (λ ls. option_map (behind line (take at text)) (parted heading ls)) (lines_at text this at n is))
     ∙ left
 
-pub no_section : (heading text : List ℕ) (line at : ℕ) (all : Option Split) → length text ≤ at → from_place heading text line at ≡ all → None ≡ all
+pub no_section : (heading text : List ℕ) (line at : ℕ) (all : Option Split) → length text ≤ at
+    → from_place heading text line at ≡ all → None ≡ all
 no_section heading text line at all le left =
     sym (ap (λ t. option_map (behind line (take at text)) (parted heading (lines_of t))) (drop_all at text le)) ∙ left

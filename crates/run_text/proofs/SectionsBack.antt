@@ -54,9 +54,9 @@ pub parts_of_input : SectionsPartInputs
 parts_of_input heading input s h = by_place heading input s (position (is_section_line heading) (lines_of input)) refl h
 
 -- lines of which this is the first section line
-first_here : (heading : List ℕ) (front : List (List ℕ)) (l : List ℕ) (more : List (List ℕ)) → All (λ m. is_section_line heading m ≡ false) front → is_section_line heading l ≡ true
+place_behind : (heading : List ℕ) (front : List (List ℕ)) (l : List ℕ) (more : List (List ℕ)) → All (λ m. is_section_line heading m ≡ false) front → is_section_line heading l ≡ true
     → position (is_section_line heading) (front ++ l ∷ more) ≡ Some (length front)
-first_here heading front l more h e =
+place_behind heading front l more h e =
     let p = is_section_line heading in
     let all = front ++ l ∷ more in
     let long : length front < length all = omega (arith, length-append front (l ∷ more)) in
@@ -74,7 +74,7 @@ parted_here heading front l more n h e =
     let section : is_section_line heading l ≡ true = rw e refl in
     let before : take k all ≡ front = take_at front (l ∷ more) k refl in
     let behind : drop (k + 1) all ≡ more = drop-append-add front (l ∷ more) 1 in
-    ap (option_and_then (λ i. option_map (parted_at all i) (iterations_of heading (words (get_or all i []))))) (first_here heading front l more h section)
+    ap (option_and_then (λ i. option_map (parted_at all i) (iterations_of heading (words (get_or all i []))))) (place_behind heading front l more h section)
     ∙ ap (option_map (parted_at all k)) tells
     ∙ ap (λ ls. Some (record { litmus = concat ls; iterations = n; line = k + 2; lines = drop (k + 1) all })) before
     ∙ ap (λ ls. Some (record { litmus = concat front; iterations = n; line = k + 2; lines = ls })) behind

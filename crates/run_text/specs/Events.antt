@@ -17,7 +17,9 @@ plain_kind verb =
     else if bytes_eq verb (codes "fence") then Some Fence else None
 
 abbrev pub valued_kind : List ℕ → ℕ → Option RunKind
-valued_kind verb v = if bytes_eq verb (codes "read") then Some (Read v) else if bytes_eq verb (codes "exchange") then Some (Exchange v) else None
+valued_kind verb v =
+    if bytes_eq verb (codes "read") then Some (Read v)
+    else if bytes_eq verb (codes "exchange") then Some (Exchange v) else None
 
 abbrev pub kind_with : List ℕ → Option ℕ → Option RunKind
 kind_with verb None = None
@@ -46,6 +48,8 @@ event_in line = event_of (words line)
 abbrev pub lacks_form : List ℕ → Bool
 lacks_form line = has_words line && is_none (event_in line)
 
--- the events of lines, the first of which has this number, unless one of them lacks the form: then the first of these is refused
+-- the events of lines, the first of which has this number: lines without words are skipped, and the first that lacks the form is
+-- refused
 abbrev pub events_of : ℕ → List (List ℕ) → Result (List RunEvent) ℕ
-events_of line lines = unless_refused (option_map (λ k. line + k) (position lacks_form lines)) (filter_map event_in lines)
+events_of line lines =
+    unless_refused (option_map (λ k. line + k) (position lacks_form lines)) (filter_map event_in lines)

@@ -19,7 +19,8 @@ numbers_of (w ∷ ws) = in_front (large_number w) (numbers_of ws)
 
 -- numbers as the log of n iterations with so many columns; None where they are not exactly as many as it has
 abbrev pub as_log : ℕ → ℕ → List ℕ → Option Values
-as_log columns n vs = if length vs == columns * n then Some (record { columns = columns; values = vs; spare = 0 }) else None
+as_log columns n vs =
+    if length vs == columns * n then Some (record { columns = columns; values = vs; spare = 0 }) else None
 
 abbrev pub log_of : ℕ → ℕ → List (List ℕ) → Option Values
 log_of columns n ws = option_and_then (as_log columns n) (numbers_of ws)
@@ -27,13 +28,15 @@ log_of columns n ws = option_and_then (as_log columns n) (numbers_of ws)
 -- the log of thread t that a line with these words tells: `P<t>`, and as many numbers as the log has
 abbrev pub log_for : List ℕ → ℕ → ℕ → List (List ℕ) → Option Values
 log_for columns n t [] = None
-log_for columns n t (w ∷ ws) = if bytes_eq w (codes "P" ++ decimal t) then option_and_then (λ c. log_of c n ws) (slice_get columns t) else None
+log_for columns n t (w ∷ ws) =
+    if bytes_eq w (codes "P" ++ decimal t) then option_and_then (λ c. log_of c n ws) (slice_get columns t) else None
 
 -- a line that is to tell a log: the thread, the line's number, and the line
 abbrev pub Numbered : Type 0
 Numbered = ℕ × (ℕ × List ℕ)
 
--- the lines with words, each with its number, the first line's being this; the t-th of them is to tell the log of thread t
+-- the lines with words, each with its number; the first line has this number, and the t-th line with words is to tell the log of
+-- thread t
 abbrev pub log_lines : ℕ → List (List ℕ) → List Numbered
 log_lines line lines = enumerate_from 0 (filter (λ l. has_words l.1) (enumerate_from line lines))
 
@@ -51,7 +54,8 @@ last_of_few columns last ls = if nat_lt (length ls) (length columns) then Some l
 
 -- the logs that such lines tell, one for each thread, unless one is wrong or they are too few
 abbrev pub logs_in : List ℕ → ℕ → ℕ → List Numbered → Result (List Values) ℕ
-logs_in columns n last ls = unless_refused (option_or (wrong_line columns n ls) (last_of_few columns last ls)) (filter_map (log_in columns n) ls)
+logs_in columns n last ls =
+    unless_refused (option_or (wrong_line columns n ls) (last_of_few columns last ls)) (filter_map (log_in columns n) ls)
 
 -- the logs of lines, the first of which has this number
 abbrev pub logs_of : List ℕ → ℕ → ℕ → List (List ℕ) → Result (List Values) ℕ

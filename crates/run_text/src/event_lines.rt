@@ -69,7 +69,8 @@ fn event_in(line: &[u8]) -> Option<RunEvent>
     })
 }
 
-/// The events of the lines of a section. Lines without words are skipped, and the first other line that is no event is told.
+/// The events of the lines of a section. Lines without words are skipped, and the first other line that is no event is
+/// told.
 pub fn events(alloc: Global, section: &Section) -> Result<Vec<RunEvent>, SectionError>
     requires { section.now.line + length section.now.lines.now < 2 ^ 32 }
     ensures { IsAnswer (λ events. events.items) (events_of section.now.line (lines_of section.now.lines.now)) result }

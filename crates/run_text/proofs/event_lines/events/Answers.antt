@@ -1,9 +1,8 @@
 use Rattle.std.proofs.Common.{Global, Vec, ◌+◌, ◌-◌, ◌∙◌, ap, arith, drop, take}
 use Rattle.run_judge.specs.declared.event.RunEvent.{RunEvent}
-use Rattle.run_text.specs.Events.{events_of}
-use Rattle.run_text.specs.Lines.{lines_of}
+use Rattle.run_text.proofs.Onto.{onto_all}
 use Rattle.run_text.proofs.Sections.{len_within, line_at}
-use Rattle.run_text.proofs.Telling.{no_form, nothing_told, onto_all, one_told}
+use Rattle.run_text.proofs.Telling.{events_from, no_form, nothing_told, one_told}
 use Rattle.run_text.proofs.event_lines.events.Goals as goal
 use Rattle.run_text.proofs.event_lines.events.Goals.{in-Some+in_ok-push, in_default+else-has_words}
 
@@ -13,7 +12,8 @@ returns-then-has_words c =
     let at = c.loop-at.at in
     let n = c.line_len-len.result in
     let is = line_at text at n c.loop-at-test.true c.line_len-len.ensures in
-    no_form text (take (at + n - at) (drop at text)) at n c.loop-at.line c.loop-at.events.items _ is c.in_default.ensures c.if-has_words.ensures c.loop-at.invariant.left
+    no_form text (take (at + n - at) (drop at text)) at n c.loop-at.line c.loop-at.events.items _ is
+    c.in_default.ensures c.if-has_words.ensures c.loop-at.invariant.left
 
 pub loop-at-preserved : goal.loop-at-preserved
 loop-at-preserved c =
@@ -31,11 +31,11 @@ loop-at-preserved c =
       line = omega arith;
       left = elim c.match-event_in.branch [
         | in-Some+in_ok-push w ↦
-            ap (λ (v : Vec RunEvent Global). onto_all v.items (events_of (line + 1) (lines_of (drop (at + n) text)))) w.events-is
-            ∙ ap (λ l. onto_all l (events_of (line + 1) (lines_of (drop (at + n) text)))) w.in_ok-push.ensures.items
+            ap (λ (v : Vec RunEvent Global). onto_all v.items (events_from text (line + 1) (at + n))) w.events-is
+            ∙ ap (λ l. onto_all l (events_from text (line + 1) (at + n))) w.in_ok-push.ensures.items
             ∙ one_told text this at n line es w.in-Some.event _ is w.in-Some.ensures c.loop-at.invariant.left
         | in_default+else-has_words w ↦
-            ap (λ (v : Vec RunEvent Global). onto_all v.items (events_of (line + 1) (lines_of (drop (at + n) text)))) w.events-is
+            ap (λ (v : Vec RunEvent Global). onto_all v.items (events_from text (line + 1) (at + n))) w.events-is
             ∙ nothing_told text this at n line es _ is w.in_default.ensures w.if-has_words.ensures c.loop-at.invariant.left
       ];
     }

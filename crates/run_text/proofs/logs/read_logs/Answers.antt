@@ -3,7 +3,7 @@ use Rattle.std.proofs.lemmas.List.{length_push}
 use Rattle.litmus_reader.specs.Front.{words}
 use Rattle.load_log.specs.Values.{Lists}
 use Rattle.run_text.specs.Logs.{log_for}
-use Rattle.run_text.proofs.Logging.{from_place, no_form, nothing_said, onto_all, one_said, one_within}
+use Rattle.run_text.proofs.Logging.{from_place, no_form, nothing_said, one_said, one_within}
 use Rattle.run_text.proofs.Sections.{len_within, line_at}
 use Rattle.run_text.proofs.logs.read_logs.Goals as goal
 use Rattle.run_text.proofs.logs.read_logs.Goals.{then-has_words+in_ok-log+in-Some, else-has_words}
@@ -18,7 +18,8 @@ returns-in_default c =
     let done = c.loop-at.logs.logs in
     let this = take (at + n - at) (drop at text) in
     let is = line_at text at n c.loop-at-test.true c.line_len-len.ensures in
-    let here : None ≡ log_for columns k (length done) (words this) = sym c.in_default.is ∙ c.in_ok-log.ensures ∙ ap (λ t. log_for columns k t (words this)) c.len.ensures in
+    let here : None ≡ log_for columns k (length done) (words this)
+    = sym c.in_default.is ∙ c.in_ok-log.ensures ∙ ap (λ t. log_for columns k t (words this)) c.len.ensures in
     no_form columns k text this at n c.loop-at.line done _ is c.if-has_words.ensures here c.loop-at.invariant.left
 
 pub add-requires : goal.add-requires
@@ -26,8 +27,10 @@ add-requires c =
     let columns = c.args.columns.now in
     let k = c.args.section.now.iterations in
     let done = c.loop-at.logs.logs in
-    let this = take (c.loop-at.at + c.line_len-len.result - c.loop-at.at) (drop c.loop-at.at c.args.section.now.lines.now) in
-    let here : Some c.in-Some.log ≡ log_for columns k (length done) (words this) = sym c.in-Some.is ∙ c.in_ok-log.ensures ∙ ap (λ t. log_for columns k t (words this)) c.len.ensures in
+    let at = c.loop-at.at in
+    let this = take (at + c.line_len-len.result - at) (drop at c.args.section.now.lines.now) in
+    let here : Some c.in-Some.log ≡ log_for columns k (length done) (words this)
+    = sym c.in-Some.is ∙ c.in_ok-log.ensures ∙ ap (λ t. log_for columns k t (words this)) c.len.ensures in
     let within = one_within columns k (length done) (words this) c.in-Some.log here in
     let room = c.loop-at.invariant.room in
     record { room = omega arith }
@@ -60,7 +63,7 @@ loop-at-preserved c =
             low = omega arith;
             few = let e = ap (λ (l : Lists). length l.logs) logs in omega arith;
             room = let f = i.room in let e = ap (λ (l : Lists). l.spare + length l.logs) logs in omega arith;
-            left = ap (λ (l : Lists). onto_all l.logs (from_place columns k text (line + 1) (length l.logs) (at + n))) logs
+            left = ap (λ (l : Lists). from_place columns k text (line + 1) l.logs (at + n)) logs
                 ∙ one_said columns k text this at n line done u.in-Some.log _ is u.if-has_words.ensures here i.left;
           }
       | else-has_words u ↦
@@ -71,7 +74,7 @@ loop-at-preserved c =
             low = omega arith;
             few = let f = i.few in let e = ap (λ (l : Lists). length l.logs) logs in omega arith;
             room = let f = i.room in let e = ap (λ (l : Lists). l.spare + length l.logs) logs in e ∙ f;
-            left = ap (λ (l : Lists). onto_all l.logs (from_place columns k text (line + 1) (length l.logs) (at + n))) logs
+            left = ap (λ (l : Lists). from_place columns k text (line + 1) l.logs (at + n)) logs
                 ∙ nothing_said columns k text this at n line done _ is u.if-has_words.ensures i.left;
           }
     ]
