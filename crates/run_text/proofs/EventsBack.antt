@@ -6,10 +6,10 @@ use Rattle.run_judge.specs.Line.{kind_text, line_of}
 use Rattle.run_judge.specs.declared.event.RunEvent.{RunEvent}
 use Rattle.run_judge.specs.declared.event.RunKind.{RunKind}
 use Rattle.run_judge.specs.declared.event.RunKind.TheVariants.{Push, Drain, Fence, Read, Exchange}
-use Rattle.run_text.specs.Events.{event_by, event_of, kind_of, kind_with}
+use Rattle.run_text.specs.Events.{event_by, event_of, kind_of, kind_with, valued_kind}
 use Rattle.run_text.specs.Laws.{EventsAreReadBack, HasWidth, IsOfWidth}
 use Rattle.run_text.specs.Numbers.{small_number, thread_of}
-use Rattle.run_text.proofs.WordsBack.{IsWord, cut, decimal_is_word, large_back, small_back}
+use Rattle.run_text.proofs.WordsBack.{IsWord, cut, decimal_is_word, large_back, small_back, wide}
 
 -- the words of a kind's text, and the kind that they tell
 record IsKindBack (k : RunKind) : Type 0 where
@@ -33,8 +33,11 @@ verb_alone : (verb : List ℕ) → IsWord verb → words (verb ++ codes "\n") �
 verb_alone verb h = cut verb 10 [] h blank_10
 
 -- a verb, a value and the line feed
-verb_with : (verb : List ℕ) (v : ℕ) → IsWord verb → v < 2 ^ 64 → words (verb ++ 32 ∷ (decimal v ++ codes "\n")) ≡ verb ∷ decimal v ∷ []
-verb_with verb v h k = cut verb 32 (decimal v ++ codes "\n") h blank_32 ∙ ap (λ ws. verb ∷ ws) (verb_alone (decimal v) (decimal_is_word v k))
+verb_with : (verb : List ℕ) (v : ℕ) → IsWord verb → v < 2 ^ 64
+    → words (verb ++ 32 ∷ (decimal v ++ codes "\n")) ≡ verb ∷ decimal v ∷ []
+verb_with verb v h k =
+    cut verb 32 (decimal v ++ codes "\n") h blank_32
+    ∙ ap (λ ws. verb ∷ ws) (verb_alone (decimal v) (decimal_is_word v k))
 
 is_push : IsWord (codes "push")
 unfolding is_blank
@@ -56,18 +59,35 @@ is_exchange : IsWord (codes "exchange")
 unfolding is_blank
 is_exchange = record { some = omega arith; plain = refl }
 
+-- a kind whose text is a verb, and one whose text is a verb and a value
+alone : (k : RunKind) (verb : List ℕ) → IsWord verb → kind_text k ≡ 32 ∷ (verb ++ codes "\n") → kind_of verb [] ≡ Some k
+    → IsKindBack k
+alone k verb h text kind = record {
+  verb = verb;
+  more = [];
+  tail = verb ++ codes "\n";
+  text = text;
+  reads = verb_alone verb h;
+  kind = kind;
+}
+
+valued : (k : RunKind) (verb : List ℕ) (v : ℕ) → IsWord verb → v < 2 ^ 64
+    → kind_text k ≡ 32 ∷ (verb ++ 32 ∷ (decimal v ++ codes "\n")) → valued_kind verb v ≡ Some k → IsKindBack k
+valued k verb v h small text kind = record {
+  verb = verb;
+  more = decimal v ∷ [];
+  tail = verb ++ 32 ∷ (decimal v ++ codes "\n");
+  text = text;
+  reads = verb_with verb v h small;
+  kind = ap (kind_with verb) (large_back v small) ∙ kind;
+}
+
 kind_back : (k : RunKind) → HasWidth k → IsKindBack k
-kind_back Push h = record { verb = codes "push"; more = []; tail = codes "push\n"; text = refl; reads = verb_alone (codes "push") is_push; kind = refl }
-kind_back Drain h = record { verb = codes "drain"; more = []; tail = codes "drain\n"; text = refl; reads = verb_alone (codes "drain") is_drain; kind = refl }
-kind_back Fence h = record { verb = codes "fence"; more = []; tail = codes "fence\n"; text = refl; reads = verb_alone (codes "fence") is_fence; kind = refl }
-kind_back (Read v) h = record {
-  verb = codes "read"; more = decimal v ∷ []; tail = codes "read " ++ (decimal v ++ codes "\n"); text = refl;
-  reads = verb_with (codes "read") v is_read h; kind = ap (kind_with (codes "read")) (large_back v h)
-}
-kind_back (Exchange v) h = record {
-  verb = codes "exchange"; more = decimal v ∷ []; tail = codes "exchange " ++ (decimal v ++ codes "\n"); text = refl;
-  reads = verb_with (codes "exchange") v is_exchange h; kind = ap (kind_with (codes "exchange")) (large_back v h)
-}
+kind_back Push h = alone Push (codes "push") is_push refl refl
+kind_back Drain h = alone Drain (codes "drain") is_drain refl refl
+kind_back Fence h = alone Fence (codes "fence") is_fence refl refl
+kind_back (Read v) h = valued (Read v) (codes "read") v is_read h refl refl
+kind_back (Exchange v) h = valued (Exchange v) (codes "exchange") v is_exchange h refl refl
 
 -- the words in front of a kind's
 is_thread : (t : ℕ) → t < 2 ^ 64 → IsWord (80 ∷ decimal t)
@@ -81,15 +101,19 @@ front_words t n p tail ht hn hp =
     ∙ ap (λ ws. (80 ∷ decimal t) ∷ ws) (cut (decimal n) 32 (decimal p ++ 32 ∷ tail) (decimal_is_word n hn) blank_32
     ∙ ap (λ ws. decimal n ∷ ws) (cut (decimal p) 32 tail (decimal_is_word p hp) blank_32))
 
-told : (t n p : ℕ) (k : RunKind) (a b c : Option ℕ) (d : Option RunKind) → a ≡ Some t → b ≡ Some n → c ≡ Some p → d ≡ Some k
-    → event_by a b c d ≡ Some (record { thread = t; iteration = n; place = p; kind = k })
-told t n p k a b c d ha hb hc hd = rw (ha, hb, hc, hd) refl
+told : (e : RunEvent) (a b c : Option ℕ) (d : Option RunKind)
+    → a ≡ Some e.thread → b ≡ Some e.iteration → c ≡ Some e.place → d ≡ Some e.kind → event_by a b c d ≡ Some e
+told e a b c d ha hb hc hd = rw (ha, hb, hc, hd) refl
 
 pub event_back : EventsAreReadBack
 event_back e h =
     let k = kind_back e.kind h.value in
-    let front = front_words e.thread e.iteration e.place k.tail (let w = h.thread in omega arith) (let w = h.iteration in omega arith) (let w = h.place in omega arith) in
-    ap (λ text. event_of (words ((80 ∷ decimal e.thread) ++ 32 ∷ (decimal e.iteration ++ 32 ∷ (decimal e.place ++ text))))) k.text
-    ∙ ap event_of (front ∙ ap (λ ws. (80 ∷ decimal e.thread) ∷ decimal e.iteration ∷ decimal e.place ∷ ws) k.reads)
-    ∙ told e.thread e.iteration e.place e.kind (small_number (decimal e.thread)) (small_number (decimal e.iteration)) (small_number (decimal e.place)) (kind_of k.verb k.more)
-    (small_back e.thread h.thread) (small_back e.iteration h.iteration) (small_back e.place h.place) k.kind
+    let t = wide e.thread h.thread in
+    let n = wide e.iteration h.iteration in
+    let p = wide e.place h.place in
+    let front : List ℕ → List ℕ = λ text. (80 ∷ decimal e.thread) ++ 32 ∷ (decimal e.iteration ++ 32 ∷ (decimal e.place ++ text)) in
+    ap (λ text. event_of (words (front text))) k.text
+    ∙ ap event_of (front_words e.thread e.iteration e.place k.tail t n p)
+    ∙ ap (λ ws. event_of ((80 ∷ decimal e.thread) ∷ decimal e.iteration ∷ decimal e.place ∷ ws)) k.reads
+    ∙ told e _ _ _ (kind_of k.verb k.more) (small_back e.thread h.thread) (small_back e.iteration h.iteration)
+    (small_back e.place h.place) k.kind

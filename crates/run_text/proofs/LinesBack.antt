@@ -45,10 +45,13 @@ front_cuts (b ∷ bs) k = by_byte (λ n. front_cuts bs n) (b == 10) refl k
     feed h zero = refl
     feed h (suc k) = ap (λ ls. (10 ∷ []) ∷ ls) (h k)
 
-    by_byte : ((n : ℕ) → Cuts (take n (lines_of bs))) → (v : Bool) → (b == 10) ≡ v → (k : ℕ) → Cuts (take k (lines_of (b ∷ bs)))
-    by_byte h true e k = ap (λ ls. lines_of (concat (take k ls))) (with_feed b bs e) ∙ feed h k ∙ ap (take k) (sym (with_feed b bs e))
+    by_byte : ((n : ℕ) → Cuts (take n (lines_of bs))) → (v : Bool) → (b == 10) ≡ v → (k : ℕ)
+        → Cuts (take k (lines_of (b ∷ bs)))
+    by_byte h true e k =
+        ap (λ ls. lines_of (concat (take k ls))) (with_feed b bs e) ∙ feed h k ∙ ap (take k) (sym (with_feed b bs e))
     by_byte h false e k =
-        ap (λ ls. lines_of (concat (take k ls))) (with_byte b bs e) ∙ take_onto b k (lines_of bs) e (h k) ∙ ap (take k) (sym (with_byte b bs e))
+        ap (λ ls. lines_of (concat (take k ls))) (with_byte b bs e) ∙ take_onto b k (lines_of bs) e (h k)
+        ∙ ap (take k) (sym (with_byte b bs e))
 
 whole_cuts : (text : List ℕ) → Cuts (lines_of text)
 whole_cuts text = ap lines_of (lines_together text)
@@ -66,13 +69,18 @@ rest_cuts (b ∷ bs) (suc k) = by_byte (rest_cuts bs k) (rest_cuts bs (suc k)) (
     onto [] h = no_cuts k
     onto (l ∷ ls) h = h
 
-    by_byte : Cuts (drop k (lines_of bs)) → Cuts (drop (suc k) (lines_of bs)) → (v : Bool) → (b == 10) ≡ v → Cuts (drop (suc k) (lines_of (b ∷ bs)))
-    by_byte h more true e = ap (λ ls. lines_of (concat (drop (suc k) ls))) (with_feed b bs e) ∙ h ∙ ap (drop (suc k)) (sym (with_feed b bs e))
+    by_byte : Cuts (drop k (lines_of bs)) → Cuts (drop (suc k) (lines_of bs)) → (v : Bool) → (b == 10) ≡ v
+        → Cuts (drop (suc k) (lines_of (b ∷ bs)))
+    by_byte h more true e =
+        ap (λ ls. lines_of (concat (drop (suc k) ls))) (with_feed b bs e) ∙ h
+        ∙ ap (drop (suc k)) (sym (with_feed b bs e))
     by_byte h more false e =
-        ap (λ ls. lines_of (concat (drop (suc k) ls))) (with_byte b bs e) ∙ onto (lines_of bs) more ∙ ap (drop (suc k)) (sym (with_byte b bs e))
+        ap (λ ls. lines_of (concat (drop (suc k) ls))) (with_byte b bs e) ∙ onto (lines_of bs) more
+        ∙ ap (drop (suc k)) (sym (with_byte b bs e))
 
 -- each line is one
-pub line_cuts : (text : List ℕ) (k : ℕ) → k < length (lines_of text) → lines_of (get_or (lines_of text) k []) ≡ get_or (lines_of text) k [] ∷ []
+pub line_cuts : (text : List ℕ) (k : ℕ) → k < length (lines_of text)
+    → lines_of (get_or (lines_of text) k []) ≡ get_or (lines_of text) k [] ∷ []
 line_cuts text k lt =
     let ls = lines_of text in
     let l = get_or ls k [] in
@@ -95,21 +103,26 @@ some_line (b ∷ bs) = by_byte (b == 10)
     onto [] = omega arith
     onto (l ∷ ls) = omega arith
 
-    by_byte : (v : Bool) → 0 < length (cond v ((10 ∷ []) ∷ lines_of (bs ++ 10 ∷ [])) (onto_first b (lines_of (bs ++ 10 ∷ []))))
+    by_byte : (v : Bool)
+        → 0 < length (cond v ((10 ∷ []) ∷ lines_of (bs ++ 10 ∷ [])) (onto_first b (lines_of (bs ++ 10 ∷ []))))
     by_byte true = omega arith
     by_byte false = onto (lines_of (bs ++ 10 ∷ []))
 
-pub lines_behind : (front rest : List ℕ) → lines_of ((front ++ 10 ∷ []) ++ rest) ≡ lines_of (front ++ 10 ∷ []) ++ lines_of rest
+pub lines_behind : (front rest : List ℕ)
+    → lines_of ((front ++ 10 ∷ []) ++ rest) ≡ lines_of (front ++ 10 ∷ []) ++ lines_of rest
 lines_behind [] rest = refl
 lines_behind (b ∷ bs) rest = by_byte (lines_behind bs rest) (b == 10) refl
   where
     by_byte : lines_of ((bs ++ 10 ∷ []) ++ rest) ≡ lines_of (bs ++ 10 ∷ []) ++ lines_of rest
-        → (v : Bool) → (b == 10) ≡ v → lines_of (b ∷ ((bs ++ 10 ∷ []) ++ rest)) ≡ lines_of (b ∷ (bs ++ 10 ∷ [])) ++ lines_of rest
+        → (v : Bool) → (b == 10) ≡ v
+        → lines_of (b ∷ ((bs ++ 10 ∷ []) ++ rest)) ≡ lines_of (b ∷ (bs ++ 10 ∷ [])) ++ lines_of rest
     by_byte h true e =
-        with_feed b ((bs ++ 10 ∷ []) ++ rest) e ∙ ap (λ ls. (10 ∷ []) ∷ ls) h ∙ ap (λ ls. ls ++ lines_of rest) (sym (with_feed b (bs ++ 10 ∷ []) e))
+        with_feed b ((bs ++ 10 ∷ []) ++ rest) e ∙ ap (λ ls. (10 ∷ []) ∷ ls) h
+        ∙ ap (λ ls. ls ++ lines_of rest) (sym (with_feed b (bs ++ 10 ∷ []) e))
     by_byte h false e =
         with_byte b ((bs ++ 10 ∷ []) ++ rest) e ∙ ap (onto_first b) h
-        ∙ onto_more b (lines_of (bs ++ 10 ∷ [])) (lines_of rest) (some_line bs) ∙ ap (λ ls. ls ++ lines_of rest) (sym (with_byte b (bs ++ 10 ∷ []) e))
+        ∙ onto_more b (lines_of (bs ++ 10 ∷ [])) (lines_of rest) (some_line bs)
+        ∙ ap (λ ls. ls ++ lines_of rest) (sym (with_byte b (bs ++ 10 ∷ []) e))
 
 -- A text that is one line with its line feed.
 
@@ -126,7 +139,9 @@ behind_plain (b ∷ bs) line h f rest =
     no_feed true e = cc
     no_feed false e = refl
 
-pub fed_lines : {X : Type 0} (line : X → List ℕ) (xs : List X) → ((x : X) (k : ℕ) → k < length xs → IsFed (line (get_or xs k x))) → lines_of (flat_map line xs) ≡ map line xs
+pub fed_lines : {X : Type 0} (line : X → List ℕ) (xs : List X)
+    → ((x : X) (k : ℕ) → k < length xs → IsFed (line (get_or xs k x))) → lines_of (flat_map line xs) ≡ map line xs
 fed_lines line [] h = refl
 fed_lines line (x ∷ xs) h =
-    h x 0 (omega arith) (flat_map line xs) ∙ ap (λ ls. line x ∷ ls) (fed_lines line xs (λ y k lt. h y (suc k) (omega arith)))
+    h x 0 (omega arith) (flat_map line xs)
+    ∙ ap (λ ls. line x ∷ ls) (fed_lines line xs (λ y k lt. h y (suc k) (omega arith)))

@@ -20,7 +20,7 @@ use Rattle.run_text.specs.Sections.{Split, is_section_line, iterations_of, parte
 use Rattle.run_text.proofs.EventsBack.{event_back}
 use Rattle.run_text.proofs.LinesBack.{IsFed, behind_plain, fed_lines, lines_behind, lines_together}
 use Rattle.run_text.proofs.SectionsBack.{parted_here}
-use Rattle.run_text.proofs.WordsBack.{IsWord, by_digits, cut, decimal_is_word, large_back}
+use Rattle.run_text.proofs.WordsBack.{IsWord, by_digits, cut, decimal_is_word, large_back, wide}
 
 -- ---- each line of a written run is one line
 
@@ -28,7 +28,8 @@ digit_is_no_feed : (c : ℕ) → 48 ≤ c → c ≤ 57 → is_no_feed c ≡ true
 digit_is_no_feed c h k = rw (ne_eqb c 10 (λ e. absurd (omega arith))) refl
 
 behind_decimal : (n : ℕ) (line : List ℕ) → n < 2 ^ 64 → IsFed line → IsFed (decimal n ++ line)
-behind_decimal n line h f = behind_plain (decimal n) line (by_digits is_no_feed digit_is_no_feed (decimal n) (decimal_is_IsNumeral n h).0.1) f
+behind_decimal n line h f =
+    behind_plain (decimal n) line (by_digits is_no_feed digit_is_no_feed (decimal n) (decimal_is_IsNumeral n h).0.1) f
 
 feed_fed : IsFed (codes "\n")
 feed_fed rest = refl
@@ -37,20 +38,20 @@ kind_fed : (k : RunKind) → HasWidth k → IsFed (kind_text k)
 kind_fed Push h = λ rest. refl
 kind_fed Drain h = λ rest. refl
 kind_fed Fence h = λ rest. refl
-kind_fed (Read v) h = behind_plain (codes " read ") (decimal v ++ codes "\n") refl (behind_decimal v (codes "\n") h feed_fed)
-kind_fed (Exchange v) h = behind_plain (codes " exchange ") (decimal v ++ codes "\n") refl (behind_decimal v (codes "\n") h feed_fed)
+kind_fed (Read v) h =
+    behind_plain (codes " read ") (decimal v ++ codes "\n") refl (behind_decimal v (codes "\n") h feed_fed)
+kind_fed (Exchange v) h =
+    behind_plain (codes " exchange ") (decimal v ++ codes "\n") refl (behind_decimal v (codes "\n") h feed_fed)
 
-blank_fed : (line : List ℕ) → IsFed line → IsFed (codes " " ++ line)
-blank_fed line f rest = ap (onto_first 32) (f rest)
+-- a number and a blank in front of a line
+number_fed : (n : ℕ) (line : List ℕ) → n < 2 ^ 32 → IsFed line → IsFed (decimal n ++ (codes " " ++ line))
+number_fed n line h f = behind_decimal n (codes " " ++ line) (wide n h) (λ rest. ap (onto_first 32) (f rest))
 
 line_fed : (e : RunEvent) → IsOfWidth e → IsFed (line_of e)
 line_fed e h =
-    let kind = kind_fed e.kind h.value in
-    let place = behind_decimal e.place (kind_text e.kind) (let w = h.place in omega arith) kind in
-    let iteration = behind_decimal e.iteration (codes " " ++ (decimal e.place ++ kind_text e.kind)) (let w = h.iteration in omega arith)
-    (blank_fed (decimal e.place ++ kind_text e.kind) place) in
-    let thread = behind_decimal e.thread (codes " " ++ (decimal e.iteration ++ (codes " " ++ (decimal e.place ++ kind_text e.kind)))) (let w = h.thread in omega arith)
-    (blank_fed (decimal e.iteration ++ (codes " " ++ (decimal e.place ++ kind_text e.kind))) iteration) in
+    let place = behind_decimal e.place (kind_text e.kind) (wide e.place h.place) (kind_fed e.kind h.value) in
+    let iteration = number_fed e.iteration (decimal e.place ++ kind_text e.kind) h.iteration place in
+    let thread = number_fed e.thread (decimal e.iteration ++ (codes " " ++ (decimal e.place ++ kind_text e.kind))) h.thread iteration in
     λ rest. ap (onto_first 80) (thread rest)
 
 -- ---- the section line
@@ -59,7 +60,8 @@ abbrev section_line : ℕ → List ℕ
 section_line n = codes "%events " ++ (decimal n ++ codes "\n")
 
 section_fed : (n : ℕ) → n < 2 ^ 64 → IsFed (section_line n)
-section_fed n h = behind_plain (codes "%events ") (decimal n ++ codes "\n") refl (behind_decimal n (codes "\n") h feed_fed)
+section_fed n h =
+    behind_plain (codes "%events ") (decimal n ++ codes "\n") refl (behind_decimal n (codes "\n") h feed_fed)
 
 is_heading : IsWord (codes "%events")
 unfolding is_blank
@@ -68,25 +70,31 @@ is_heading = record { some = omega arith; plain = refl }
 section_words : (n : ℕ) → n < 2 ^ 64 → words (section_line n) ≡ codes "%events" ∷ decimal n ∷ []
 unfolding is_blank
 section_words n h =
-    cut (codes "%events") 32 (decimal n ++ codes "\n") is_heading refl ∙ ap (λ ws. codes "%events" ∷ ws) (cut (decimal n) 10 [] (decimal_is_word n h) refl)
+    cut (codes "%events") 32 (decimal n ++ codes "\n") is_heading refl
+    ∙ ap (λ ws. codes "%events" ∷ ws) (cut (decimal n) 10 [] (decimal_is_word n h) refl)
 
 section_tells : (n : ℕ) → 1 ≤ n → n ≤ 100000 → iterations_of (codes "%events") (words (section_line n)) ≡ Some n
 section_tells n low high =
     let small : n < 2 ^ 64 = omega arith in
     ap (iterations_of (codes "%events")) (section_words n small) ∙ ap within_iterations (large_back n small)
-    ∙ ap (λ b. cond (b && nat_le n 100000) (Some n) None) (le-leb 1 n low) ∙ ap (λ b. cond b (Some n) None) (le-leb n 100000 high)
+    ∙ ap (λ b. cond (b && nat_le n 100000) (Some n) None) (le-leb 1 n low)
+    ∙ ap (λ b. cond b (Some n) None) (le-leb n 100000 high)
 
 -- ---- the lines of a written run
 
-run_lines : (n : ℕ) (events : List RunEvent) → n < 2 ^ 64 → All IsOfWidth events → lines_of (run_text_of n events) ≡ section_line n ∷ map line_of events
+run_lines : (n : ℕ) (events : List RunEvent) → n < 2 ^ 64 → All IsOfWidth events
+    → lines_of (run_text_of n events) ≡ section_line n ∷ map line_of events
 unfolding run_text_of number_line
 run_lines n events h w =
-    section_fed n h (flat_map line_of events) ∙ ap (λ ls. section_line n ∷ ls) (fed_lines line_of events (λ e k lt. line_fed (get_or events k e) (w k e lt)))
+    section_fed n h (flat_map line_of events)
+    ∙ ap (λ ls. section_line n ∷ ls) (fed_lines line_of events (λ e k lt. line_fed (get_or events k e) (w k e lt)))
 
 behind_litmus : (litmus rest : List ℕ) → EndsLine litmus → lines_of (litmus ++ rest) ≡ lines_of litmus ++ lines_of rest
-behind_litmus litmus rest h = subst (λ l. lines_of (l ++ rest) ≡ lines_of l ++ lines_of rest) (sym h.is) (lines_behind h.front rest)
+behind_litmus litmus rest h =
+    subst (λ l. lines_of (l ++ rest) ≡ lines_of l ++ lines_of rest) (sym h.is) (lines_behind h.front rest)
 
-parts_back : (litmus : List ℕ) (n : ℕ) (events : List RunEvent) → CanLead litmus → 1 ≤ n → n ≤ 100000 → All IsOfWidth events
+parts_back : (litmus : List ℕ) (n : ℕ) (events : List RunEvent) → CanLead litmus → 1 ≤ n → n ≤ 100000
+    → All IsOfWidth events
     → split_of (codes "%events") (litmus ++ run_text_of n events) ≡ Some (run_parts litmus n events)
 parts_back litmus n events h low high w =
     let front = lines_of litmus in
@@ -101,7 +109,8 @@ parts_back litmus n events h low high w =
 has_form : (e : RunEvent) → IsOfWidth e → lacks_form (line_of e) ≡ false
 has_form e h = and_right (has_words (line_of e)) (is_none (event_in (line_of e))) (ap is_none (event_back e h))
 
-none_lacks : (events : List RunEvent) → All IsOfWidth events → position_or_len lacks_form (map line_of events) ≡ length (map line_of events)
+none_lacks : (events : List RunEvent) → All IsOfWidth events
+    → position_or_len lacks_form (map line_of events) ≡ length (map line_of events)
 none_lacks [] w = refl
 none_lacks (e ∷ es) w =
     let here = has_form e (All-head IsOfWidth e es w) in
@@ -111,16 +120,19 @@ none_lacks (e ∷ es) w =
 all_told : (events : List RunEvent) → All IsOfWidth events → filter_map event_in (map line_of events) ≡ events
 all_told [] w = refl
 all_told (e ∷ es) w =
-    ap (λ o. cons_option o (filter_map event_in (map line_of es))) (event_back e (All-head IsOfWidth e es w)) ∙ ap (λ fs. e ∷ fs) (all_told es (All-tail IsOfWidth e es w))
+    ap (λ o. cons_option o (filter_map event_in (map line_of es))) (event_back e (All-head IsOfWidth e es w))
+    ∙ ap (λ fs. e ∷ fs) (all_told es (All-tail IsOfWidth e es w))
 
-events_told : (events : List RunEvent) (line : ℕ) → All IsOfWidth events → events_of line (map line_of events) ≡ Ok events
+events_told : (events : List RunEvent) (line : ℕ) → All IsOfWidth events
+    → events_of line (map line_of events) ≡ Ok events
 events_told events line w =
     let ls = map line_of events in
-    let none : position lacks_form ls ≡ None = rw (none_lacks events w, le-ltb (length ls) (length ls) (omega arith)) refl in
+    let none : position lacks_form ls ≡ None =
+    rw (none_lacks events w, le-ltb (length ls) (length ls) (omega arith)) refl in
     ap (λ o. unless_refused (option_map (λ k. line + k) o) (filter_map event_in ls)) none ∙ ap Ok (all_told events w)
 
 pub runs_back : RunsAreReadBack
 runs_back litmus n events h low high w = record {
   parts = parts_back litmus n events h low high w;
-  tells = λ line. events_told events line w
+  tells = λ line. events_told events line w;
 }

@@ -34,8 +34,8 @@ EventsAreReadBack = (e : RunEvent) → IsOfWidth e → event_of (words (line_of 
 abbrev pub HasNoSection : List ℕ → List ℕ → Type 0
 HasNoSection heading text = All (λ line. is_section_line heading line ≡ false) (lines_of text)
 
--- An input is the litmus part, a section line and the lines of the section: the section line is one line, and the first of its heading;
--- it tells the number of iterations, and the first line of the section has the number behind its own.
+-- An input is the litmus part, a section line and the lines of the section. The section line is one line and the first of its
+-- heading; it tells the number of iterations, and the first line of the section has the number behind its own.
 pub record IsParted (heading input : List ℕ) (s : Split) : Type 0 where
   pub section : List ℕ
   pub whole : input ≡ s.litmus ++ (section ++ concat s.lines)
@@ -61,7 +61,12 @@ pub record CanLead (litmus : List ℕ) : Type 0 where
 
 -- the parts of a litmus text and a written run behind it
 abbrev pub run_parts : List ℕ → ℕ → List RunEvent → Split
-run_parts litmus n events = record { litmus = litmus; iterations = n; line = length (lines_of litmus) + 2; lines = map line_of events }
+run_parts litmus n events = record {
+  litmus = litmus;
+  iterations = n;
+  line = length (lines_of litmus) + 2;
+  lines = map line_of events;
+}
 
 -- a written run behind a litmus text is parted from it, and its lines tell its events
 pub record IsReadBack (litmus : List ℕ) (n : ℕ) (events : List RunEvent) : Type 0 where
