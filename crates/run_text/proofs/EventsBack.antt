@@ -2,13 +2,12 @@
 use Rattle.std.proofs.Common.{◌≡◌, ℕ, ◌^◌, ◌<◌, true, Option, Some, List, [], ◌∷◌, ◌++◌, codes, decimal, refl, ap, ◌∙◌, arith}
 use Rattle.x86_subset.specs.Token.{is_blank}
 use Rattle.litmus_reader.specs.Front.{words}
-use Rattle.run_judge.specs.Line.{kind_text, line_of}
+use Rattle.run_judge.specs.Line.{kind_text}
 use Rattle.run_judge.specs.declared.event.RunEvent.{RunEvent}
 use Rattle.run_judge.specs.declared.event.RunKind.{RunKind}
 use Rattle.run_judge.specs.declared.event.RunKind.TheVariants.{Push, Drain, Fence, Read, Exchange}
 use Rattle.run_text.specs.Events.{event_by, event_of, kind_of, kind_with, valued_kind}
-use Rattle.run_text.specs.Laws.{EventsAreReadBack, HasWidth, IsOfWidth}
-use Rattle.run_text.specs.Numbers.{small_number, thread_of}
+use Rattle.run_text.specs.Laws.{EventsAreReadBack, HasWidth}
 use Rattle.run_text.proofs.WordsBack.{IsWord, cut, decimal_is_word, large_back, small_back, wide}
 
 -- the words of a kind's text, and the kind that they tell

@@ -1,9 +1,9 @@
 -- A run that is written behind a litmus text is read back.
-use Rattle.std.proofs.Common.{◌≡◌, ℕ, suc, ◌+◌, ◌^◌, ◌<◌, ◌≤◌, ◌&&◌, true, false, cond, Option, None, Some, List, [], ◌∷◌, ◌++◌, All, codes, decimal, get_or, is_none, length, map, nat_le, nat_lt, position, filter_map, Ok, option_map, refl, sym, ap, ◌∙◌, subst, arith, le-leb, le-ltb}
+use Rattle.std.proofs.Common.{◌≡◌, ℕ, ◌+◌, ◌^◌, ◌<◌, ◌≤◌, ◌&&◌, true, false, cond, None, Some, List, [], ◌∷◌, ◌++◌, All, codes, decimal, get_or, is_none, length, map, nat_le, position, filter_map, Ok, option_map, refl, sym, ap, ◌∙◌, subst, arith, le-leb, le-ltb}
 use Rattle.std.proofs.lemmas.Bool.{and_right, ne_eqb}
 use Rattle.std.proofs.lemmas.Fmt.{decimal_is_IsNumeral}
 use Rattle.std.proofs.lemmas.List.Elements.{All-head, All-tail}
-use Rattle.std.specs.List.{concat, cons_option, flat_map, list_all, onto_first, position_or_len}
+use Rattle.std.specs.List.{cons_option, flat_map, onto_first, position_or_len}
 use Rattle.x86_subset.specs.Token.{is_blank}
 use Rattle.litmus_reader.specs.Front.{is_no_feed, words}
 use Rattle.report_text.specs.Words.{number_line}
@@ -12,11 +12,10 @@ use Rattle.run_judge.specs.declared.event.RunEvent.{RunEvent}
 use Rattle.run_judge.specs.declared.event.RunKind.{RunKind}
 use Rattle.run_judge.specs.declared.event.RunKind.TheVariants.{Push, Drain, Fence, Read, Exchange}
 use Rattle.run_text.specs.Events.{event_in, events_of, lacks_form}
-use Rattle.run_text.specs.Laws.{CanLead, EndsLine, HasNoSection, HasWidth, IsOfWidth, IsReadBack, RunsAreReadBack, run_parts}
+use Rattle.run_text.specs.Laws.{CanLead, EndsLine, HasWidth, IsOfWidth, RunsAreReadBack, run_parts}
 use Rattle.run_text.specs.Lines.{has_words, lines_of, unless_refused}
-use Rattle.run_text.specs.Numbers.{large_number}
 use Rattle.run_text.specs.Runs.{run_text_of}
-use Rattle.run_text.specs.Sections.{Split, is_section_line, iterations_of, parted, split_of, within_iterations}
+use Rattle.run_text.specs.Sections.{iterations_of, parted, split_of, within_iterations}
 use Rattle.run_text.proofs.EventsBack.{event_back}
 use Rattle.run_text.proofs.LinesBack.{IsFed, behind_plain, fed_lines, lines_behind, lines_together}
 use Rattle.run_text.proofs.SectionsBack.{parted_here}

@@ -1,9 +1,8 @@
 -- An input that has a section, and its parts.
-use Rattle.std.proofs.Common.{◌≡◌, ℕ, suc, ◌+◌, ◌<◌, true, false, cond, Option, None, Some, List, [], ◌∷◌, ◌++◌, All, drop, get_or, length, nat_lt, position, take, option_map, option_and_then, refl, sym, ap, ◌∙◌, subst, add-one, arith, append-nil, drop-cons, drop_at, get_or-take, length-append, length-take, lt-ltb, take-append-drop, take_at}
+use Rattle.std.proofs.Common.{◌≡◌, ℕ, ◌+◌, ◌<◌, true, false, cond, Option, None, Some, List, [], ◌∷◌, ◌++◌, All, drop, get_or, length, nat_lt, position, take, option_map, option_and_then, refl, sym, ap, ◌∙◌, subst, add-one, arith, drop-cons, get_or-take, length-append, length-take, lt-ltb, take-append-drop, take_at}
 use Rattle.std.proofs.Math.ListN.{get_or-append}
 use Rattle.std.proofs.Math.Seq.{drop-append-add, get_or-append_seam}
-use Rattle.std.proofs.lemmas.List.{get_or_default}
-use Rattle.std.proofs.lemmas.List.Elements.{All-from_get_or, All-get_or, All-same}
+use Rattle.std.proofs.lemmas.List.Elements.{All-from_get_or, All-same}
 use Rattle.std.proofs.lemmas.List.Folds.{concat-append}
 use Rattle.std.proofs.lemmas.List.Quantifiers.{position-Some}
 use Rattle.std.proofs.lemmas.List.Sums.{position_or_len_is}
