@@ -1,16 +1,14 @@
 -- A legal run that is written behind a litmus text is called legal.
-use Rattle.std.proofs.Common.{◌≡◌, ℕ, ◌+◌, ◌≤◌, List, ◌++◌, None, Some, Ok, codes, length, map, refl, sym, ap, ◌∙◌, subst}
+use Rattle.std.proofs.Common.{◌≡◌, ℕ, List, ◌++◌, None, Some, Ok, codes, length, map, sym, ap, ◌∙◌, subst}
 use Rattle.x86_subset.specs.Shape.{limit_of}
 use Rattle.x86_subset.specs.Test.{LitmusTest}
 use Rattle.seq_conv.specs.Run.{IsRunOf}
 use Rattle.litmus_reader.specs.Answer.{Accepted}
-use Rattle.litmus_reader.specs.Reading.{Reads, accepted, read_text}
+use Rattle.litmus_reader.specs.Reading.{Reads, accepted}
 use Rattle.litmus_reader.proofs.ReadingLaws.{one_reading}
 use Rattle.report_text.specs.Words.{number_line}
-use Rattle.tso_words.specs.Seats.{Ended as Closed}
 use Rattle.run_judge.specs.Judgement.{event_of, judgement_of}
 use Rattle.run_judge.specs.declared.event.RunEvent.{RunEvent}
-use Rattle.run_judge.specs.declared.judgement.Judgement.TheVariants.{Legal}
 use Rattle.run_judge.proofs.Judged.{legal_is_run_lem}
 use Rattle.run_text.specs.Laws.{IsReadBack, run_parts}
 use Rattle.run_text.specs.Runs.{run_text_of}
@@ -19,7 +17,6 @@ use Rattle.run_text.proofs.RunsBack.{runs_back}
 use Rattle.tool_core.specs.Due.{due_for_lines, due_for_test}
 use Rattle.tool_core.specs.Laws.{WrittenRunsAreLegal}
 use Rattle.tool_core.specs.Texts.{IsJudged, judgement_line}
-use Rattle.tool_core.specs.Top.{IsAnswer}
 use Rattle.tool_core.specs.declared.words.Command.TheVariants.{Judge}
 use Rattle.tool_core.proofs.Dues.{due_for_text}
 use Rattle.tool_core.proofs.RunWidths.{run_widths}
@@ -62,13 +59,13 @@ legal_said litmus test n events reads short leads low high r =
         parts = parts;
         test = test;
         accepts = record { parts_are = back.parts; short = short; reading = reads; none_due = due };
-        right = (still, record { events = events; are = back.tells parts.line; is = sym (legal_line test n events r) })
+        right = (still, record { events = events; are = back.tells parts.line; is = sym (legal_line test n events r) });
       };
       only = λ done said a.
-      let same : a.parts ≡ parts = (let e : Some a.parts ≡ Some parts = sym a.accepts.parts_are ∙ back.parts in cc) in
-      let other : Reads litmus (Accepted a.test) =
-      subst (λ (s : Split). Reads s.litmus (Accepted a.test)) same a.accepts.reading in
-      let this : a.test ≡ test = one_test litmus test a.test reads other in
-      let judged : IsJudged a.test parts said = subst (λ (s : Split). IsJudged a.test s said) same a.right.1 in
-      said_legal litmus test n events said back r (subst (λ (t : LitmusTest). IsJudged t parts said) this judged)
+          let same : a.parts ≡ parts = (let e : Some a.parts ≡ Some parts = sym a.accepts.parts_are ∙ back.parts in cc) in
+          let other : Reads litmus (Accepted a.test) =
+          subst (λ (s : Split). Reads s.litmus (Accepted a.test)) same a.accepts.reading in
+          let this : a.test ≡ test = one_test litmus test a.test reads other in
+          let judged : IsJudged a.test parts said = subst (λ (s : Split). IsJudged a.test s said) same a.right.1 in
+          said_legal litmus test n events said back r (subst (λ (t : LitmusTest). IsJudged t parts said) this judged);
     }

@@ -1,5 +1,5 @@
 -- The numbers of a run of a test have their widths.
-use Rattle.std.proofs.Common.{◌≡◌, ℕ, zero, suc, ◌+◌, ◌*◌, ◌^◌, ◌<◌, ◌≤◌, ◌&&◌, Bool, true, false, cond, not, Option, None, Some, List, [], ◌∷◌, ◌++◌, All, drop, get_or, length, map, nat_lt, slice_get, take, refl, sym, ap, ◌∙◌, subst, arith, drop-cons, length-append, take-append-drop, mul-le-mul}
+use Rattle.std.proofs.Common.{◌≡◌, ℕ, zero, suc, ◌+◌, ◌*◌, ◌^◌, ◌<◌, ◌≤◌, ◌&&◌, Bool, true, false, cond, not, Option, None, Some, List, [], ◌∷◌, ◌++◌, All, drop, get_or, length, map, nat_lt, slice_get, take, refl, sym, ap, ◌∙◌, arith, drop-cons, length-append, take-append-drop, mul-le-mul}
 use Rattle.std.proofs.Math.ListN.{get_or-map}
 use Rattle.std.proofs.lemmas.Bool.{and_parts, ltb-false, ltb-true, or_parts}
 use Rattle.std.proofs.lemmas.List.{length-map}
@@ -12,13 +12,13 @@ use Rattle.x86_subset.specs.Test.{Code, LitmusTest, body_of}
 use Rattle.x86_subset.specs.declared.instr.Instr.{Instr}
 use Rattle.x86_subset.specs.declared.test.Shape.{Shape}
 use Rattle.x86_subset.specs.declared.test.Shape.TheVariants.{Threads, Locations, Instrs}
-use Rattle.seq_conv.specs.Event.{Event, Kind, event_location}
+use Rattle.seq_conv.specs.Event.{Event, event_location}
 use Rattle.seq_conv.specs.Log.{value_read, value_read_as}
 use Rattle.seq_conv.specs.Run.{IsRunOf}
 use Rattle.seq_conv.specs.Sequence.{Site, store_count, stores_in_body, stores_in_bodies}
 use Rattle.seq_conv.specs.Source.{source_of}
 use Rattle.seq_conv.proofs.Sources.{values_name_their_source_lem}
-use Rattle.run_judge.specs.Judgement.{event_of, fault_of, is_named, judgement_after, judgement_by, judgement_of, kind_of_run}
+use Rattle.run_judge.specs.Judgement.{event_of, fault_of, is_named, judgement_after, judgement_by, kind_of_run}
 use Rattle.run_judge.specs.declared.event.RunEvent.{RunEvent}
 use Rattle.run_judge.specs.declared.event.RunKind.{RunKind}
 use Rattle.run_judge.specs.declared.event.RunKind.TheVariants as run

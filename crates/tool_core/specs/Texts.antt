@@ -1,6 +1,6 @@
 -- What each command writes on its output. Runs are those of x86-TSO (Sewell, Sarkar, Owens, Zappa Nardelli and Myreen, CACM 2010); the
 -- texts are this project's own.
-use Rattle.std.specs.Prelude.{◌≡◌, ℕ, ◌+◌, ◌<◌, List, [], ◌∷◌, ◌++◌, Result, Ok, codes, decimal, length, map}
+use Rattle.std.specs.Prelude.{◌≡◌, ℕ, ◌+◌, ◌<◌, List, [], ◌∷◌, ◌++◌, Ok, codes, decimal, length, map}
 use Rattle.std.specs.List.{flat_map}
 use Rattle.x86_subset.specs.Test.{LitmusTest}
 use Rattle.seq_conv.specs.Event.{Event}
