@@ -115,7 +115,7 @@ pub section_here : (heading text this : List ℕ) (at n line it : ℕ) (all : Op
     ≡ all
 section_here heading text this at n line it all is e left =
     let ls = lines_of (drop (at + n) text) in
-    let first = record { litmus = []; iterations = it; line = 2; lines = ls } in
+    let first : Split = record { litmus = []; iterations = it; line = 2; lines = ls } in
     let found : from_place heading text line at ≡ Some (behind line (take at text) first)
     = ap (λ ls. option_map (behind line (take at text)) (parted heading ls)) (lines_at text this at n is)
     ∙ ap (option_map (behind line (take at text))) (parted_here heading this ls it (sym e)) in
