@@ -28,7 +28,8 @@ missing columns last count = cond (nat_lt count (length columns)) (Some last) No
 -- what such lines say, where this is the number of the last line of all
 abbrev given : List ℕ → ℕ → ℕ → ℕ → List Numbered → Said
 given columns n last t rows =
-    unless_refused (option_or (wrong_line columns n rows) (missing columns last (t + length rows))) (filter_map (log_in columns n) rows)
+    unless_refused (option_or (wrong_line columns n rows) (missing columns last (t + length rows)))
+    (filter_map (log_in columns n) rows)
 
 abbrev pub logs_from : List ℕ → ℕ → ℕ → ℕ → List (List ℕ) → Said
 logs_from columns n line t ls = given columns n (line + length ls - 1) t (rows_of t line ls)
@@ -38,7 +39,9 @@ pub from_first_thread : (columns : List ℕ) (n line : ℕ) (ls : List (List ℕ
 from_first_thread columns n line ls =
     let rows = rows_of 0 line ls in
     let count : 0 + length rows ≡ length rows = omega arith in
-    ap (λ k. unless_refused (option_or (wrong_line columns n rows) (missing columns (line + length ls - 1) k)) (filter_map (log_in columns n) rows)) count
+    let last = line + length ls - 1 in
+    ap (λ k. unless_refused (option_or (wrong_line columns n rows) (missing columns last k)) (filter_map (log_in columns n) rows))
+    count
 
 last_is : (line : ℕ) (ls : List (List ℕ)) → line + suc (length ls) - 1 ≡ line + 1 + length ls - 1
 last_is line ls = omega arith
@@ -63,16 +66,17 @@ row_first columns n line t l ls w =
 abbrev by_told : List ℕ → ℕ → ℕ → ℕ → Numbered → List Numbered → Option Values → Said
 by_told columns n last count row rows told =
     let wrong = find (λ (l : Numbered). is_none (log_in columns n l)) rows in
-    unless_refused (option_or (option_map (λ (l : Numbered). l.1.0) (cond (is_none told) (Some row) wrong)) (missing columns last count))
-    (cons_option told (filter_map (log_in columns n) rows))
+    let first = option_map (λ (l : Numbered). l.1.0) (cond (is_none told) (Some row) wrong) in
+    unless_refused (option_or first (missing columns last count)) (cons_option told (filter_map (log_in columns n) rows))
 
-told_first : (columns : List ℕ) (n last t : ℕ) (row : Numbered) (rows : List Numbered) (log : Values) → log_in columns n row ≡ Some log
-    → given columns n last t (row ∷ rows) ≡ onto_all (log ∷ []) (given columns n last (t + 1) rows)
+told_first : (columns : List ℕ) (n last t : ℕ) (row : Numbered) (rows : List Numbered) (log : Values)
+    → log_in columns n row ≡ Some log → given columns n last t (row ∷ rows) ≡ onto_all (log ∷ []) (given columns n last (t + 1) rows)
 told_first columns n last t row rows log e =
     let count : t + suc (length rows) ≡ t + 1 + length rows = omega arith in
     ap (by_told columns n last (t + suc (length rows)) row rows) e
     ∙ ap (λ k. by_told columns n last k row rows (Some log)) count
-    ∙ one_first (option_or (wrong_line columns n rows) (missing columns last (t + 1 + length rows))) log (filter_map (log_in columns n) rows)
+    ∙ one_first (option_or (wrong_line columns n rows) (missing columns last (t + 1 + length rows))) log
+    (filter_map (log_in columns n) rows)
 
 pub log_first : (columns : List ℕ) (n line t : ℕ) (l : List ℕ) (ls : List (List ℕ)) (log : Values) → has_words l ≡ true
     → log_for columns n t (words l) ≡ Some log
@@ -105,7 +109,8 @@ from_place columns k text line done at = onto_all done (logs_from columns k line
 
 pub from_start : (columns : List ℕ) (k : ℕ) (text : List ℕ) (line : ℕ)
     → from_place columns k text line [] 0 ≡ logs_of columns k line (lines_of text)
-from_start columns k text line = onto_none (logs_from columns k line 0 (lines_of text)) ∙ from_first_thread columns k line (lines_of text)
+from_start columns k text line =
+    onto_none (logs_from columns k line 0 (lines_of text)) ∙ from_first_thread columns k line (lines_of text)
 
 step : (columns : List ℕ) (k : ℕ) (text this : List ℕ) (at n line t : ℕ) → IsLine text this at n
     → logs_from columns k line t (lines_of (drop at text)) ≡ logs_from columns k line t (this ∷ lines_of (drop (at + n) text))

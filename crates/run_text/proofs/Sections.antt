@@ -73,7 +73,8 @@ one_on l ls k (Some n) =
     λ i. Some (record { litmus = l ++ concat (take k ls); iterations = n; line = line i; lines = drop (place i) (l ∷ ls) })
 
 later_by : (heading l : List ℕ) (ls : List (List ℕ)) (o : Option ℕ)
-    → option_and_then (told_at heading (l ∷ ls)) (option_map suc o) ≡ option_map (one_behind l) (option_and_then (told_at heading ls) o)
+    → option_and_then (told_at heading (l ∷ ls)) (option_map suc o)
+    ≡ option_map (one_behind l) (option_and_then (told_at heading ls) o)
 later_by heading l ls None = refl
 later_by heading l ls (Some k) = one_on l ls k (iterations_of heading (words (get_or ls k [])))
 
@@ -114,7 +115,8 @@ pub section_here : (heading text this : List ℕ) (at n line it : ℕ) (all : Op
     ≡ all
 section_here heading text this at n line it all is e left =
     let ls = lines_of (drop (at + n) text) in
-    let found : from_place heading text line at ≡ Some (behind line (take at text) (record { litmus = []; iterations = it; line = 2; lines = ls }))
+    let first : Split = record { litmus = []; iterations = it; line = 2; lines = ls } in
+    let found : from_place heading text line at ≡ Some (behind line (take at text) first)
     = ap (λ ls. option_map (behind line (take at text)) (parted heading ls)) (lines_at text this at n is)
     ∙ ap (option_map (behind line (take at text))) (parted_here heading this ls it (sym e)) in
     let front : take at text ≡ take at text ++ [] = sym (append-nil (take at text)) in

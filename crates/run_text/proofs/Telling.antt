@@ -25,7 +25,8 @@ one_later line None = refl
 one_later line (Some k) = let same : line + suc k ≡ line + 1 + k = omega arith in ap Some same
 
 later : (line : ℕ) (l : List ℕ) (ls : List (List ℕ)) → lacks_form l ≡ false
-    → events_of line (l ∷ ls) ≡ unless_refused (number (line + 1) (position lacks_form ls)) (cons_option (event_in l) (filter_map event_in ls))
+    → events_of line (l ∷ ls)
+    ≡ unless_refused (number (line + 1) (position lacks_form ls)) (cons_option (event_in l) (filter_map event_in ls))
 later line l ls e =
     ap (λ o. unless_refused o (cons_option (event_in l) (filter_map event_in ls)))
     (ap (number line) (first_later lacks_form l ls e) ∙ one_later line (position lacks_form ls))
@@ -50,7 +51,8 @@ fault_first : (line : ℕ) (l : List ℕ) (ls : List (List ℕ)) → event_in l 
 fault_first line l ls e w =
     let lacks : lacks_form l ≡ true = ap (λ v. v && is_none (event_in l)) w ∙ ap is_none e in
     let here : line + 0 ≡ line = omega arith in
-    ap (λ o. unless_refused (number line o) (cons_option (event_in l) (filter_map event_in ls))) (first_here lacks_form l ls lacks)
+    ap (λ o. unless_refused (number line o) (cons_option (event_in l) (filter_map event_in ls)))
+    (first_here lacks_form l ls lacks)
     ∙ ap Err here
 
 -- ---- the lines from a place on
@@ -78,7 +80,8 @@ pub one_told : (text this : List ℕ) (at n line : ℕ) (es : List RunEvent) (ev
     → onto_all (es ++ event ∷ []) (events_from text (line + 1) (at + n)) ≡ all
 one_told text this at n line es event all is e left =
     let one = event_first line this (lines_of (drop (at + n) text)) event (sym e) in
-    sym (onto_one es event (events_from text (line + 1) (at + n))) ∙ sym (ap (onto_all es) (step text this at n line is ∙ one)) ∙ left
+    sym (onto_one es event (events_from text (line + 1) (at + n)))
+    ∙ sym (ap (onto_all es) (step text this at n line is ∙ one)) ∙ left
 
 pub no_form : (text this : List ℕ) (at n line : ℕ) (es : List RunEvent) (all : Told) → IsLine text this at n
     → None ≡ event_in this → true ≡ has_words this → onto_all es (events_from text line at) ≡ all → all ≡ Err line

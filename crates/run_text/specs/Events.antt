@@ -48,8 +48,8 @@ event_in line = event_of (words line)
 abbrev pub lacks_form : List ℕ → Bool
 lacks_form line = has_words line && is_none (event_in line)
 
--- the events of lines, the first of which has this number: lines without words are skipped, and the first that lacks the form is
--- refused
+-- the events of lines, the first of which has this number: lines without words are skipped, and the first that lacks the
+-- form is refused
 abbrev pub events_of : ℕ → List (List ℕ) → Result (List RunEvent) ℕ
 events_of line lines =
     unless_refused (option_map (λ k. line + k) (position lacks_form lines)) (filter_map event_in lines)

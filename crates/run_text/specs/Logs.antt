@@ -35,7 +35,7 @@ log_for columns n t (w ∷ ws) =
 abbrev pub Numbered : Type 0
 Numbered = ℕ × (ℕ × List ℕ)
 
--- the lines with words, each with its number; the first line has this number, and the t-th line with words is to tell the log of
+-- the lines with words, each with its number, where the first line has this one; the t-th of them is to tell the log of
 -- thread t
 abbrev pub log_lines : ℕ → List (List ℕ) → List Numbered
 log_lines line lines = enumerate_from 0 (filter (λ l. has_words l.1) (enumerate_from line lines))
