@@ -1,5 +1,5 @@
 -- The numbers of a line, one by one.
-use Rattle.std.proofs.Common.{◌≡◌, ◌≢◌, ℕ, suc, ◌+◌, ◌*◌, ◌<◌, ◌==◌, Option, None, Some, List, [], ◌∷◌, ◌++◌, cond, length, refl, ap, append-nil, append_assoc, arith, eq-eqb, length-append, sym, ◌∙◌}
+use Rattle.std.proofs.Common.{◌≡◌, ◌≢◌, ℕ, ◌*◌, ◌<◌, Option, None, Some, List, [], ◌∷◌, ◌++◌, cond, length, refl, ap, append-nil, append_assoc, arith, eq-eqb, length-append, sym, ◌∙◌}
 use Rattle.std.proofs.lemmas.Bool.{ne_eqb}
 use Rattle.std.specs.Option.{option_and_then}
 use Rattle.load_log.specs.Values.{Values}

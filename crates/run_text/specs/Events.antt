@@ -1,13 +1,13 @@
 -- The lines of a section of events. The format is this project's own; what the events are is x86-TSO's
 -- (Sewell, Sarkar, Owens, Zappa Nardelli and Myreen, CACM 2010).
-use Rattle.std.specs.Prelude.{ℕ, ◌+◌, Bool, List, [], ◌∷◌, ◌++◌, Option, None, Some, Result, Ok, Err, if◌then◌else◌, codes, option_map}
+use Rattle.std.specs.Prelude.{ℕ, ◌+◌, ◌&&◌, Bool, List, [], ◌∷◌, Option, None, Some, Result, if◌then◌else◌, codes, is_none, option_map}
+use Rattle.std.specs.List.{filter_map, position}
 use Rattle.std.specs.Str.{bytes_eq}
 use Rattle.litmus_reader.specs.Front.{words}
 use Rattle.run_judge.specs.declared.event.RunEvent.{RunEvent}
 use Rattle.run_judge.specs.declared.event.RunKind.{RunKind}
 use Rattle.run_judge.specs.declared.event.RunKind.TheVariants.{Push, Drain, Fence, Read, Exchange}
-use Rattle.run_text.specs.declared.event.Told.{Told}
-use Rattle.run_text.specs.declared.event.Told.TheVariants.{Nothing, One, NoForm}
+use Rattle.run_text.specs.Lines.{has_words, unless_refused}
 use Rattle.run_text.specs.Numbers.{large_number, small_number, thread_of}
 
 -- a kind without a value, and one with a value
@@ -17,7 +17,9 @@ plain_kind verb =
     else if bytes_eq verb (codes "fence") then Some Fence else None
 
 abbrev pub valued_kind : List ℕ → ℕ → Option RunKind
-valued_kind verb v = if bytes_eq verb (codes "read") then Some (Read v) else if bytes_eq verb (codes "exchange") then Some (Exchange v) else None
+valued_kind verb v =
+    if bytes_eq verb (codes "read") then Some (Read v)
+    else if bytes_eq verb (codes "exchange") then Some (Exchange v) else None
 
 abbrev pub kind_with : List ℕ → Option ℕ → Option RunKind
 kind_with verb None = None
@@ -38,24 +40,16 @@ abbrev pub event_of : List (List ℕ) → Option RunEvent
 event_of (t ∷ n ∷ p ∷ verb ∷ more) = event_by (thread_of t) (small_number n) (small_number p) (kind_of verb more)
 event_of _ = None
 
--- what a line with these words says: an event, or nothing where there are no words, or it has not the form
-abbrev pub told_by : Option RunEvent → Told
-told_by None = NoForm
-told_by (Some e) = One e
+-- the event that a line tells, if it tells one
+abbrev pub event_in : List ℕ → Option RunEvent
+event_in line = event_of (words line)
 
-abbrev pub told_of : List (List ℕ) → Told
-told_of [] = Nothing
-told_of (w ∷ ws) = told_by (event_of (w ∷ ws))
+-- whether a line has words, and not the form of an event
+abbrev pub lacks_form : List ℕ → Bool
+lacks_form line = has_words line && is_none (event_in line)
 
--- what the line with this number adds to the events of the lines behind it
-abbrev pub onto_events : Told → ℕ → Result (List RunEvent) ℕ → Result (List RunEvent) ℕ
-onto_events Nothing line rest = rest
-onto_events (One e) line (Ok es) = Ok (e ∷ es)
-onto_events (One e) line (Err bad) = Err bad
-onto_events NoForm line rest = Err line
-
--- the events of lines, the first of which has this number: lines without words are skipped, and of the other lines the first
--- that is no event is told by its number
+-- the events of lines, the first of which has this number: lines without words are skipped, and the first that lacks the
+-- form is refused
 abbrev pub events_of : ℕ → List (List ℕ) → Result (List RunEvent) ℕ
-events_of line [] = Ok []
-events_of line (l ∷ ls) = onto_events (told_of (words l)) line (events_of (line + 1) ls)
+events_of line lines =
+    unless_refused (option_map (λ k. line + k) (position lacks_form lines)) (filter_map event_in lines)

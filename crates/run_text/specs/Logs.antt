@@ -1,11 +1,12 @@
 -- The lines of a section of logs, one for each thread. The format is this project's own.
-use Rattle.std.specs.Prelude.{ℕ, ◌+◌, ◌-◌, ◌*◌, ◌==◌, Bool, false, List, [], ◌∷◌, Option, None, Some, Result, Ok, Err, if◌then◌else◌, length, nat_lt, slice_get}
-use Rattle.std.specs.Option.{option_and_then, option_map_or}
+use Rattle.std.specs.Prelude.{ℕ, ◌+◌, ◌-◌, ◌*◌, ◌==◌, List, [], ◌∷◌, ◌++◌, Option, None, Some, Result, if◌then◌else◌, codes, decimal, is_none, length, nat_lt, option_map, slice_get}
+use Rattle.std.specs.List.{enumerate_from, filter, filter_map, find}
+use Rattle.std.specs.Option.{option_and_then, option_or}
+use Rattle.std.specs.Str.{bytes_eq}
 use Rattle.load_log.specs.Values.{Values}
 use Rattle.litmus_reader.specs.Front.{words}
-use Rattle.run_text.specs.declared.log_line.LogLine.{LogLine}
-use Rattle.run_text.specs.declared.log_line.LogLine.TheVariants.{Nothing, One, NoForm}
-use Rattle.run_text.specs.Numbers.{large_number, thread_of}
+use Rattle.run_text.specs.Lines.{has_words, unless_refused}
+use Rattle.run_text.specs.Numbers.{large_number}
 
 abbrev pub in_front : Option ℕ → Option (List ℕ) → Option (List ℕ)
 in_front (Some v) (Some vs) = Some (v ∷ vs)
@@ -18,32 +19,44 @@ numbers_of (w ∷ ws) = in_front (large_number w) (numbers_of ws)
 
 -- numbers as the log of n iterations with so many columns; None where they are not exactly as many as it has
 abbrev pub as_log : ℕ → ℕ → List ℕ → Option Values
-as_log columns n vs = if length vs == columns * n then Some (record { columns = columns; values = vs; spare = 0 }) else None
+as_log columns n vs =
+    if length vs == columns * n then Some (record { columns = columns; values = vs; spare = 0 }) else None
 
 abbrev pub log_of : ℕ → ℕ → List (List ℕ) → Option Values
 log_of columns n ws = option_and_then (as_log columns n) (numbers_of ws)
 
-abbrev pub line_by : Option Values → LogLine
-line_by None = NoForm
-line_by (Some log) = One log
+-- the log of thread t that a line with these words tells: `P<t>`, and as many numbers as the log has
+abbrev pub log_for : List ℕ → ℕ → ℕ → List (List ℕ) → Option Values
+log_for columns n t [] = None
+log_for columns n t (w ∷ ws) =
+    if bytes_eq w (codes "P" ++ decimal t) then option_and_then (λ c. log_of c n ws) (slice_get columns t) else None
 
--- what a line with these words says, where the next thread is t: its log, of as many columns as it has
-abbrev pub log_line : List ℕ → ℕ → ℕ → List (List ℕ) → LogLine
-log_line columns n t [] = Nothing
-log_line columns n t (w ∷ ws) =
-    if option_map_or (λ named. named == t) (thread_of w) false then line_by (option_and_then (λ c. log_of c n ws) (slice_get columns t)) else NoForm
+-- a line that is to tell a log: the thread, the line's number, and the line
+abbrev pub Numbered : Type 0
+Numbered = ℕ × (ℕ × List ℕ)
 
--- what the line with this number adds: to the logs of the lines behind it where it has no words, and else to those of the
--- later threads
-abbrev pub onto_logs : LogLine → ℕ → Result (List Values) ℕ → Result (List Values) ℕ → Result (List Values) ℕ
-onto_logs Nothing line same later = same
-onto_logs (One log) line same (Ok logs) = Ok (log ∷ logs)
-onto_logs (One log) line same (Err bad) = Err bad
-onto_logs NoForm line same later = Err line
+-- the lines with words, each with its number, where the first line has this one; the t-th of them is to tell the log of
+-- thread t
+abbrev pub log_lines : ℕ → List (List ℕ) → List Numbered
+log_lines line lines = enumerate_from 0 (filter (λ l. has_words l.1) (enumerate_from line lines))
 
--- the logs of the threads from t on, of lines the first of which has this number: lines without words are skipped, and of the
--- other lines the first that is not the log of the next thread is told by its number; where a log is missing, the last line is
-abbrev pub logs_of : List ℕ → ℕ → ℕ → ℕ → List (List ℕ) → Result (List Values) ℕ
-logs_of columns n line t [] = if nat_lt t (length columns) then Err (line - 1) else Ok []
-logs_of columns n line t (l ∷ ls) =
-    onto_logs (log_line columns n t (words l)) line (logs_of columns n (line + 1) t ls) (logs_of columns n (line + 1) (t + 1) ls)
+-- the log that such a line tells, if it tells that of its thread
+abbrev pub log_in : List ℕ → ℕ → Numbered → Option Values
+log_in columns n l = log_for columns n l.0 (words l.1.1)
+
+-- the number of the first such line that does not tell the log of its thread
+abbrev pub wrong_line : List ℕ → ℕ → List Numbered → Option ℕ
+wrong_line columns n ls = option_map (λ l. l.1.0) (find (λ l. is_none (log_in columns n l)) ls)
+
+-- the number of the last line, where fewer lines tell a log than there are threads
+abbrev pub last_of_few : List ℕ → ℕ → List Numbered → Option ℕ
+last_of_few columns last ls = if nat_lt (length ls) (length columns) then Some last else None
+
+-- the logs that such lines tell, one for each thread, unless one is wrong or they are too few
+abbrev pub logs_in : List ℕ → ℕ → ℕ → List Numbered → Result (List Values) ℕ
+logs_in columns n last ls =
+    unless_refused (option_or (wrong_line columns n ls) (last_of_few columns last ls)) (filter_map (log_in columns n) ls)
+
+-- the logs of lines, the first of which has this number
+abbrev pub logs_of : List ℕ → ℕ → ℕ → List (List ℕ) → Result (List Values) ℕ
+logs_of columns n line lines = logs_in columns n (line + length lines - 1) (log_lines line lines)

@@ -1,15 +1,14 @@
 //! The lines of a section of events.
 ghost use Rattle.std.specs.Prelude.{◌≡◌, ◌<◌, ◌+◌, ◌^◌, length};
 ghost use Rattle.litmus_reader.specs.Front.{words};
-ghost use Rattle.run_text.specs.Events.{event_of, events_of, kind_of, plain_kind, told_of, valued_kind};
+ghost use Rattle.run_text.specs.Events.{event_in, events_of, kind_of, plain_kind, valued_kind};
 ghost use Rattle.run_text.specs.Answered.{IsAnswer};
 ghost use Rattle.run_text.specs.Lines.{lines_of};
 
 use crate::error::SectionError;
-use crate::event::Told;
 use crate::numbers::{number_in, small_number, thread_of};
 use crate::section::Section;
-use crate::words::{line_len, next_word};
+use crate::words::{has_words, line_len, next_word};
 use run_judge::{RunEvent, RunKind};
 use std::alloc::Global;
 
@@ -54,9 +53,9 @@ fn kind_of(verb: &[u8], rest: &[u8]) -> Option<RunKind>
     }
 }
 
-/// The event that a line tells.
-fn event_at(line: &[u8]) -> Option<RunEvent>
-    ensures { result ≡ event_of (words line.now) }
+/// The event that a line tells, if it tells one.
+fn event_in(line: &[u8]) -> Option<RunEvent>
+    ensures { result ≡ event_in line.now }
 {
     let thread = next_word(line)?;
     let iteration = next_word(thread.rest)?;
@@ -70,20 +69,8 @@ fn event_at(line: &[u8]) -> Option<RunEvent>
     })
 }
 
-/// What a line says.
-fn told(line: &[u8]) -> Told
-    ensures { result ≡ told_of (words line.now) }
-{
-    match next_word(line) {
-        None => Told::Nothing,
-        Some(_) => match event_at(line) {
-            None => Told::NoForm,
-            Some(event) => Told::One(event),
-        },
-    }
-}
-
-/// The events of the lines of a section. Lines without words are skipped, and the first other line that is no event is told.
+/// The events of the lines of a section. Lines without words are skipped, and the first other line that is no event is
+/// told.
 pub fn events(alloc: Global, section: &Section) -> Result<Vec<RunEvent>, SectionError>
     requires { section.now.line + length section.now.lines.now < 2 ^ 32 }
     ensures { IsAnswer (λ events. events.items) (events_of section.now.line (lines_of section.now.lines.now)) result }
@@ -94,10 +81,11 @@ pub fn events(alloc: Global, section: &Section) -> Result<Vec<RunEvent>, Section
     let mut line = section.line;
     while at < text.len() {
         let len = line_len(&text[at..]);
-        match told(&text[at..at + len]) {
-            Told::Nothing => {}
-            Told::One(event) => events.push(event)?,
-            Told::NoForm => return Err(SectionError::Bad { line }),
+        let this = &text[at..at + len];
+        if let Some(event) = event_in(this) {
+            events.push(event)?;
+        } else if has_words(this) {
+            return Err(SectionError::Bad { line });
         }
         at += len;
         line += 1;

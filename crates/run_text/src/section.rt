@@ -1,9 +1,8 @@
 //! Where a section begins.
-ghost use Rattle.std.specs.Prelude.{◌≡◌, ◌<◌, ◌≤◌, ◌+◌, ◌^◌, IfSome, [], length, option_map};
+ghost use Rattle.std.specs.Prelude.{◌≡◌, ◌<◌, ◌≤◌, ◌+◌, ◌^◌, IfSome, length, option_map};
 ghost use Rattle.litmus_reader.specs.Front.{words};
-ghost use Rattle.run_text.specs.Lines.{lines_of};
 ghost use Rattle.run_text.specs.Numbers.{large_number};
-ghost use Rattle.run_text.specs.Sections.{IsWithin, iterations_of, seen, split_at, within_iterations};
+ghost use Rattle.run_text.specs.Sections.{IsWithin, iterations_of, seen, split_of, within_iterations};
 
 use crate::numbers::number_in;
 use crate::words::{line_len, next_word};
@@ -50,7 +49,7 @@ fn iterations_of(heading: &[u8], line: &[u8]) -> Option<u32>
 /// The section of this heading, if a line begins one.
 pub fn find_section<'a>(heading: &[u8], text: &'a [u8]) -> Option<Section<'a>>
     requires { length text.now < 2 ^ 31 }
-    ensures is { option_map seen result ≡ split_at heading.now 1 [] (lines_of text.now) }
+    ensures is { option_map seen result ≡ split_of heading.now text.now }
     ensures within { IfSome result (IsWithin (length text.now)) }
 {
     let mut at = 0;

@@ -81,8 +81,12 @@ fn six_events(rt: HostRuntime) -> Result<(), Fail> {
 #[test]
 fn lines_without_the_form_of_an_event(rt: HostRuntime) -> Result<(), Fail> {
     let alloc = rt.alloc();
-    let table: [(&[u8], u32); 10] = [
+    let table: [(&[u8], u32); 11] = [
         (b"%events 1\nP0 0 0 pull", 2),
+        (
+            b"%events 1\nP0 0 0 fence\nP0 0 1 fence\n\nP00 0 2 fence\nP0 0 3 fence\nP0 0 4 fence\nP0 0 5 fences",
+            8,
+        ),
         (b"\n%events 1\n\n\nP0 0 0 push 1", 5),
         (b"%events 1\nP0 0 0 read\n", 2),
         (
@@ -147,8 +151,10 @@ fn logs_of_two_threads(rt: HostRuntime) -> Result<(), Fail> {
 #[test]
 fn lines_without_the_form_of_a_log(rt: HostRuntime) -> Result<(), Fail> {
     let alloc = rt.alloc();
-    let table: [(&[u8], u32); 9] = [
+    let table: [(&[u8], u32); 11] = [
         (b"%logs 2\nP0 1 2\nP1 1 2 3 4\n \n", 0),
+        (b"%logs 1\nP00 0\nP1 1 1", 2),
+        (b"%logs 1\nP0 0\nP01 1 1", 3),
         (b"%logs 2\nP0 1 2\nP1 1 2 3\n", 3),
         (b"%logs 2\nP0 1 2 3\nP1 1 2 3 4\n", 2),
         (b"%logs 2\nP1 1 2 3 4\nP0 1 2\n", 2),

@@ -8,3 +8,5 @@ pub mod WitnessOfRuns
 pub mod SectionLogs
 pub mod OrderFound
 pub mod ColumnCounts
+pub mod RunWidths
+pub mod RunJudged

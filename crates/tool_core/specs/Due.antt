@@ -12,10 +12,9 @@ use Rattle.profile_check.specs.Kinds.{stand_in}
 use Rattle.profile_check.specs.Profile.{profile_of}
 use Rattle.report_text.specs.declared.status.Over.TheVariants.{Input}
 use Rattle.report_text.specs.declared.status.Status.TheVariants.{Memory, Usage, ReadFault, Limit}
-use Rattle.run_text.specs.Lines.{lines_of}
 use Rattle.run_text.specs.Events.{events_of}
 use Rattle.run_text.specs.Logs.{logs_of}
-use Rattle.run_text.specs.Sections.{Split, split_at}
+use Rattle.run_text.specs.Sections.{Split, split_of}
 use Rattle.perp_loop.specs.Replaying.{sum_below}
 use Rattle.program_edge.specs.View.{View}
 use Rattle.program_edge.specs.Form.{due_for_atoms, due_for_form}
@@ -41,7 +40,7 @@ all_litmus input = record { litmus = input; iterations = 0; line = 1; lines = []
 
 abbrev pub parts_by : Option (List ℕ) → List ℕ → Option Split
 parts_by None input = Some (all_litmus input)
-parts_by (Some heading) input = split_at heading 1 [] (lines_of input)
+parts_by (Some heading) input = split_of heading input
 
 -- the litmus part and the section of an input; None where there is no section and the command reads one
 abbrev pub parts_of : Command → List ℕ → Option Split
@@ -62,7 +61,7 @@ due_for_lines (Err line) = Some (BadLine line)
 -- the logs of a section: one for each thread of the test, of its columns
 abbrev pub section_logs : LitmusTest → Split → Result (List Values) ℕ
 section_logs test parts =
-    logs_of (map (columns_of test) (range_with_len 0 (length test.bodies))) parts.iterations parts.line 0 parts.lines
+    logs_of (map (columns_of test) (range_with_len 0 (length test.bodies))) parts.iterations parts.line parts.lines
 
 -- the stores stand in one thread, if there are any
 abbrev pub have_one_writer : List Site → Bool

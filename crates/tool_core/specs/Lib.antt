@@ -3,3 +3,4 @@ pub mod Words
 pub mod Due
 pub mod Texts
 pub mod Top
+pub mod Laws

@@ -1,6 +1,6 @@
 -- What each command writes on its output. Runs are those of x86-TSO (Sewell, Sarkar, Owens, Zappa Nardelli and Myreen, CACM 2010); the
 -- texts are this project's own.
-use Rattle.std.specs.Prelude.{◌≡◌, ℕ, ◌+◌, ◌<◌, List, [], ◌∷◌, ◌++◌, Result, Ok, codes, decimal, length, map}
+use Rattle.std.specs.Prelude.{◌≡◌, ℕ, ◌+◌, ◌<◌, List, [], ◌∷◌, ◌++◌, Ok, codes, decimal, length, map}
 use Rattle.std.specs.List.{flat_map}
 use Rattle.x86_subset.specs.Test.{LitmusTest}
 use Rattle.seq_conv.specs.Event.{Event}
@@ -15,13 +15,13 @@ use Rattle.tso_runs.specs.declared.options.Options.{Options}
 use Rattle.tso_runs.specs.Fits.{Fits}
 use Rattle.report_text.specs.Words.{newline, number_line}
 use Rattle.run_judge.specs.Judgement.{event_of, fault_number, judgement_of}
-use Rattle.run_judge.specs.Line.{line_of as event_line_of}
 use Rattle.run_judge.specs.declared.event.RunEvent.{RunEvent}
 use Rattle.run_judge.specs.declared.judgement.JudgeFault.{JudgeFault}
 use Rattle.run_judge.specs.declared.judgement.JudgeFault.TheVariants.{Names, Order, NotOldest, NotEmpty, Value, Short}
 use Rattle.run_judge.specs.declared.judgement.Judgement.{Judgement}
 use Rattle.run_judge.specs.declared.judgement.Judgement.TheVariants.{Legal, Wrong}
 use Rattle.run_text.specs.Events.{events_of}
+use Rattle.run_text.specs.Runs.{run_text_of}
 use Rattle.run_text.specs.Sections.{Split}
 use Rattle.run_witness.specs.Found.{HasNoRun}
 use Rattle.run_witness.specs.declared.found.Found.{Found}
@@ -64,10 +64,6 @@ pub record IsJudged (test : LitmusTest) (parts : Split) (text : List ℕ) : Type
   pub is : text ≡ judgement_line (length events) (judgement_of test parts.iterations (map event_of events))
 
 -- ---- order and witness
-
--- a section that tells a run
-unfoldable pub run_text_of : ℕ → List RunEvent → List ℕ
-run_text_of n events = number_line (codes "%events") n ++ flat_map event_line_of events
 
 -- the text for a value that is not right
 unfoldable pub wrong_value_line : ℕ → ℕ → ℕ → List ℕ

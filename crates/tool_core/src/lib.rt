@@ -4,12 +4,15 @@
 //! The clause `whole` of [`tool`] says what stands on `out` where a command ends whole: the text that `IsText` (`specs/Top`, by the
 //! texts of `specs/Texts`) calls right for the test and the section of the input. The cause of each status is the clause `ended`; its
 //! clauses `usage`, `due` and `too_long` say that each refusal comes exactly where it is due (`specs/Due`), and `complete` that where
-//! none is due and nothing fails the answer is whole, or memory ran out.
+//! none is due and nothing fails the answer is whole, or memory ran out. The law `written_runs_are_legal` (`specs/Laws`) says that
+//! where a legal run of a test is written behind the test's text, no refusal is due, and `Legal` with the number of its events is the
+//! one right answer.
 #![tactic(auto)]
 
 mod answer;
 mod deliver;
 mod judging;
+mod laws;
 mod ordering;
 mod parts;
 mod running;
@@ -22,6 +25,7 @@ mod words;
 mod work;
 mod writers;
 
+pub use laws::written_runs_are_legal;
 pub use perp_loop::{Gate, NoGate};
 pub use report_text::{Over, Status};
 pub use status::ToolStatus;

@@ -10,7 +10,8 @@ ghost use Rattle.run_witness.specs.Order.{AreLogsFor, HasLogs, HasWriters};
 ghost use Rattle.program_edge.specs.Field.{IsStill, SomeRunFits};
 ghost use Rattle.tool_core.specs.Due.{due_for_witness};
 ghost use Rattle.tool_core.specs.Status.{HasToolKind};
-ghost use Rattle.tool_core.specs.Texts.{IsWitnessed, IsWitnessOf, options_of, run_text_of};
+ghost use Rattle.run_text.specs.Runs.{run_text_of};
+ghost use Rattle.tool_core.specs.Texts.{IsWitnessed, IsWitnessOf, options_of};
 
 use crate::running::options_of;
 use crate::status::ToolStatus;
@@ -47,7 +48,7 @@ fn section_line(alloc: Global, n: u32) -> Result<String, NoMemory>
 }
 
 /// A section that tells a run.
-#[tactic(auto, unfolding(crate::specs::Texts::run_text_of))]
+#[tactic(auto, unfolding(run_text::specs::Runs::run_text_of))]
 pub fn run_text(alloc: Global, n: u32, events: &[RunEvent]) -> Result<String, NoMemory>
     ensures { IfOk result (λ text. string_bytes text ≡ run_text_of n events.now) }
 {
