@@ -111,9 +111,17 @@ fn forbidden_examples_are_reported_empty(rt: HostRuntime) -> Result<(), Fail> {
     let alloc = rt.alloc();
     for (text, report) in ROWS {
         let bytes = text.as_bytes();
-        assert_eq!(rt; is_forbidden(alloc, bytes)?, report.is_some(), "verdict on {text}");
+        assert_eq!(rt;
+            is_forbidden(alloc, bytes)?,
+            report.is_some(),
+            "verdict on {text}"
+        );
         if let Some(report) = report {
-            assert_eq!(rt; reported(&rt, alloc, bytes)?.as_slice(), report.as_bytes(), "run of {text}");
+            assert_eq!(rt;
+                reported(&rt, alloc, bytes)?.as_slice(),
+                report.as_bytes(),
+                "run of {text}"
+            );
         }
     }
     Ok(())
