@@ -1,0 +1,28 @@
+//! What `run` and `replay` write of a test whose conjunctions all have cycles.
+ghost use Rattle.forbidden_runs.specs.Laws.{ForbiddenReplaysGiveNoOtherText, ForbiddenRunsGiveNoOtherText, ForbiddenRunsReportNothing, ForbiddenVerdictsForbid, PerpleReportsNothingForbidden};
+
+/// The text of each run is the report that nothing was seen.
+pub fn forbidden_runs_report_nothing()
+    ensures { ForbiddenRunsReportNothing }
+{}
+
+/// So a text that is right for what the threads of `run` did on a field is that report.
+pub fn forbidden_runs_give_no_other_text()
+    ensures { ForbiddenRunsGiveNoOtherText }
+{}
+
+/// And so is one that is right for the schedule of `replay`.
+pub fn forbidden_replays_give_no_other_text()
+    ensures { ForbiddenReplaysGiveNoOtherText }
+{}
+
+/// Where `verdict` answers `Forbidden` for a test, it is forbidden as a text that is read.
+pub fn forbidden_verdicts_forbid()
+    ensures { ForbiddenVerdictsForbid }
+{}
+
+/// What the clauses `whole` and `part` of `perple` say: its `run` and its `replay` write that report, or with a fault of writing a
+/// part of it.
+pub fn perple_reports_nothing_forbidden()
+    ensures { PerpleReportsNothingForbidden }
+{}
