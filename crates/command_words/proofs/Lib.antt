@@ -4,3 +4,4 @@ mod Turns
 mod Parse
 mod JobLemmas
 mod CommandLemmas
+mod Iterations

@@ -38,6 +38,12 @@ count_named text = if bytes_eq text (codes "exhaustive") then Some Exhaustive
     else (if bytes_eq text (codes "heuristic") then Some Heuristic
     else (if bytes_eq text (codes "both") then Some Both else None))
 
+-- the number of iterations that the words give, where they give that alone: 1 to 100,000
+abbrev pub iterations_in : List Text → Option ℕ
+iterations_in [] = None
+iterations_in (word ∷ []) = number_within 1 100000 word
+iterations_in (word ∷ more ∷ rest) = None
+
 -- ---- names, each with its value
 
 -- a value, and the option that it is given to; the number of iterations is given to `N`

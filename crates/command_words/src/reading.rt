@@ -1,10 +1,10 @@
 //! The words are read, those of `run` and `replay` by clap.
-ghost use Rattle.std.specs.Prelude.{◌≡◌, ◌<◌, [], false, codes, drop, length, IfOk, map, string_bytes, MatchResult};
+ghost use Rattle.std.specs.Prelude.{◌≡◌, ◌<◌, ◌≤◌, [], false, codes, drop, length, IfOk, map, string_bytes, MatchResult};
 ghost use Rattle.std.specs.List.{list_any};
 ghost use Rattle.clap.specs.Words.{app_of, first_value, found_of};
 ghost use Rattle.clap.specs.Walk.{rule_of, texts};
 ghost use Rattle.command_words.specs.Clap.{app_for, option_arg};
-ghost use Rattle.command_words.specs.Words.{command_of, convert_in, demo_in, is_among, is_stray, job_in, job_of};
+ghost use Rattle.command_words.specs.Words.{command_of, convert_in, demo_in, is_among, is_stray, iterations_in, job_in, job_of};
 
 use crate::job::{Command, Count, Job};
 use crate::values::{count_or, number, number_or, order_in, read_within, within_or};
@@ -122,6 +122,19 @@ fn read_job<'a>(alloc: Global, words: &'a [String], names: &[&'a str]) -> Result
             }
         }
     }
+}
+
+/// Reads the words after the first, the name of some command, as the number of iterations and nothing else, by clap. `Usage` comes
+/// exactly where they are not that; that memory is refused may come instead of either answer.
+pub fn read_iterations(alloc: Global, words: &[String]) -> Result<u32, WordsError>
+    requires { 0 < length words.now }
+    ensures ok { IfOk result (λ n. iterations_in (drop 1 (map (λ w. string_bytes w) words.now)) ≡ Some n) }
+    ensures usage { result ≡ Err WordsError.Usage → iterations_in (drop 1 (map (λ w. string_bytes w) words.now)) ≡ None }
+    ensures some { IfOk result (λ n. 1 ≤ n) }
+    ensures few { IfOk result (λ n. n ≤ 100000) }
+{
+    let job = read_job(alloc, words, &[])?;
+    Ok(job.options.iterations)
 }
 
 /// `convert`, where no word follows.

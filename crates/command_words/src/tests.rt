@@ -1,4 +1,4 @@
-use crate::{Command, Count, Job, Options, WordsError, read_words};
+use crate::{Command, Count, Job, Options, WordsError, read_iterations, read_words};
 use std::alloc::{AllocError, Global};
 use std::test::Fail;
 
@@ -120,5 +120,33 @@ fn reads_lines(rt: HostRuntime) -> Result<(), Fail> {
         assert_eq!(rt; read(alloc, *line), Err(WordsError::Usage), "{line}");
     }
     assert_eq!(rt; read_words(alloc, &[]), Err(WordsError::Usage));
+    Ok(())
+}
+
+/// A name, and behind it the number of iterations alone.
+#[test]
+fn reads_iterations(rt: HostRuntime) -> Result<(), Fail> {
+    let alloc = rt.alloc();
+    for (line, iterations) in [("walk 1", 1), ("run 005", 5), ("walk 100000", 100000)] {
+        let words = words_of(alloc, line)?;
+        assert_eq!(rt; read_iterations(alloc, &words), Ok(iterations), "{line}");
+    }
+    for line in [
+        "walk",
+        "walk 0",
+        "walk 100001",
+        "walk -5",
+        "walk 5 6",
+        "walk 5 --seed 1",
+        "walk -- 5",
+        "walk x",
+    ] {
+        let words = words_of(alloc, line)?;
+        assert_eq!(rt;
+            read_iterations(alloc, &words),
+            Err(WordsError::Usage),
+            "{line}"
+        );
+    }
     Ok(())
 }

@@ -24,8 +24,8 @@ use Rattle.convert_rows.specs.Rows.{conversion_rows_of}
 use Rattle.perple_core.specs.Counting.{CanCountFrames}
 use Rattle.perple_core.specs.Due.{due_for_profile, due_for_reading, has_too_many_frames}
 use Rattle.perple_core.specs.Texts.{asks_exhaustive, conversion_text_of, demo_options_of, frame_count_of, text_of}
-use Rattle.program_edge.specs.Field.{HasLogs, IsStill, SomeRunFits}
-use Rattle.program_edge.proofs.Runs.{HasRunOn, has_logs, logs_of_fitting, some_fits}
+use Rattle.program_edge.specs.Field.{HasLogs, HasRunOn, IsStill, SomeRunFits}
+use Rattle.program_edge.proofs.Runs.{has_logs}
 use Rattle.perple_core.specs.Top.{IsTextOfRun, IsTextOfSchedule}
 use Rattle.perple_core.proofs.Accepting.{kinds_are}
 
@@ -95,17 +95,14 @@ text_behind test options schedule front gives (Err e) text is h = tt
 
 -- the report of a run that threads made
 pub run_text : (test : LitmusTest) (job : Job) (done : Closed) (logs : List Values) (r : Result (String Global) NoMemory)
-    → HasRunOn (record { test = test; options = job.options }) done logs
+    → HasRunOn test job.options done logs
     → IfOk r (λ text. (run : List Event) → HasLogs test job.options.iterations run logs → string_bytes text ≡ text_of test job run)
     → IfOk r (λ text. IsTextOfRun test job done (string_bytes text))
-run_text test job done logs (Ok text) ran h = record {
-  some_run = some_fits (record { test = test; options = job.options }) done logs ran;
-  each = λ run fits. h run (logs_of_fitting (record { test = test; options = job.options }) done logs run ran fits);
-}
+run_text test job done logs (Ok text) ran h = record { some_run = ran.some_run; each = λ run fits. h run (ran.each run fits) }
 run_text test job done logs (Err e) ran h = tt
 
 pub run_made : (test : LitmusTest) (options : Options) (done : Closed) (logs : List Values) (r : Result (String Global) NoMemory)
-    → HasRunOn (record { test = test; options = options }) done logs
+    → HasRunOn test options done logs
     → OnErr r (IsStill done ⊎ SomeRunFits test options done)
 run_made test options done logs (Ok text) ran = tt
-run_made test options done logs (Err e) ran = inr (some_fits (record { test = test; options = options }) done logs ran)
+run_made test options done logs (Err e) ran = inr ran.some_run

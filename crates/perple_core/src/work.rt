@@ -17,8 +17,9 @@ use command_words::{Command, Count, Job};
 use convert_rows::conversion;
 use demo_text::demo_iterations;
 use perp_base::NoMemory;
-use perp_loop::{Crew, Gate, Options, Schedule, replay, run_threads};
+use perp_loop::{Crew, Gate, Options, Schedule, replay};
 use profile_check::Checked;
+use program_edge::{Ran, run_test};
 use report_text::convert_text;
 use seq_conv::Sequences;
 use std::alloc::Global;
@@ -107,14 +108,24 @@ fn run_job<R: Threads + Sync, G: Gate>(
         Err(refused) => return Worked::refused(refused, field),
     };
     let wanted = wanted_by(job);
-    let crew = match Crew::new(alloc, checked.test(), &counters.sequences, &wanted.options) {
-        Ok(crew) => crew,
-        Err(refused) => return Worked::refused(refused, field),
-    };
-    let (done, logs) = run_threads(rt, field, crew, gate);
-    Worked {
-        text: wanted.report(rt, alloc, checked, &counters, &logs),
-        done,
+    let Ran { done, logs } = run_test(
+        rt,
+        alloc,
+        checked.test(),
+        &counters.sequences,
+        &wanted.options,
+        field,
+        gate,
+    );
+    match logs {
+        Ok(logs) => Worked {
+            text: wanted.report(rt, alloc, checked, &counters, &logs),
+            done,
+        },
+        Err(refused) => Worked {
+            text: Err(refused),
+            done,
+        },
     }
 }
 

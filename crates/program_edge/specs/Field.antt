@@ -10,6 +10,7 @@ use Rattle.tso_words.specs.History.{eight, zeros}
 use Rattle.tso_words.specs.Seats.{Ended as Closed}
 use Rattle.tso_runs.specs.declared.options.Options.{Options}
 use Rattle.tso_runs.specs.Fits.{Fits, EndsWith}
+use Rattle.perp_loop.specs.Crews.{AreWholeFor}
 
 -- no step was made on the field
 pub record IsStill (done : Closed) : Type 0 where
@@ -26,3 +27,9 @@ pub record SomeRunFits (test : LitmusTest) (options : Options) (done : Closed) :
 pub record HasLogs (test : LitmusTest) (n : ℕ) (run : List Event) (logs : List Values) : Type 0 where
   pub is_run : IsRunOf test n run
   pub are_logs : AreLogsOf test run logs
+
+-- the test was run on the field: some run fits, and each run that fits has these logs, which are whole
+pub record HasRunOn (test : LitmusTest) (options : Options) (done : Closed) (logs : List Values) : Type 0 where
+  pub some_run : SomeRunFits test options done
+  pub each : (run : List Event) → Fits test options done.lists run → HasLogs test options.iterations run logs
+  pub whole : AreWholeFor test options.iterations logs

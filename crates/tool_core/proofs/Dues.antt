@@ -2,16 +2,19 @@
 use Rattle.std.proofs.Common.{◌≡◌, ℕ, ◌<◌, ◌≤◌, Bool, true, false, List, length, Some, None, Result, Ok, Err, nat_lt, if◌then◌else◌, MatchBool, option_map, refl, sym, ap, subst, ◌∙◌, arith}
 use Rattle.std.specs.declared.option.Option.{Option}
 use Rattle.x86_subset.specs.Test.{LitmusTest}
+use Rattle.x86_subset.specs.declared.test.Shape.{Shape}
+use Rattle.x86_subset.specs.declared.test.Shape.TheVariants as shapes
 use Rattle.litmus_reader.specs.Answer.{Answer, Accepted, Refused as Unread, Over as TooLarge}
 use Rattle.litmus_reader.specs.Reading.{Reads}
 use Rattle.litmus_reader.proofs.ReadingLaws.{one_reading}
 use Rattle.profile_check.specs.Profile.{Profile, inside, outside, profile_of}
-use Rattle.report_text.specs.declared.status.Over.TheVariants.{Input}
+use Rattle.report_text.specs.declared.status.Over.{Over}
+use Rattle.report_text.specs.declared.status.Over.TheVariants.{Input, Threads, Locations, Instructions, Atoms, Frames}
 use Rattle.report_text.specs.declared.status.Status.{Status}
 use Rattle.report_text.specs.declared.status.Status.TheVariants.{Whole, Memory, Usage, ReadFault, WriteFault, NotLitmus, OutsideProfile, Limit}
 use Rattle.run_text.specs.Events.{events_of}
 use Rattle.run_text.specs.Sections.{Split}
-use Rattle.program_edge.specs.Form.{IsUnread, due_for_atoms, due_for_form}
+use Rattle.program_edge.specs.Form.{IsUnread, due_for_atoms, due_for_form, over_of}
 use Rattle.tool_core.specs.Due.{IsDue, IsDueForParts, IsDueForText, due_for_events, due_for_lines, due_for_reading, due_for_test, due_for_witness, due_for_writers, first_due, most_events_of, parts_of, section_logs}
 use Rattle.tool_core.specs.declared.words.Command.{Command}
 use Rattle.tool_core.specs.declared.words.Command.TheVariants.{Judge, Order, Witness, Verdict, Skew}
@@ -37,80 +40,96 @@ one_due_parts command (Some parts) a b p q = one_due_by command parts (nat_lt 65
 pub one_due : (command : Command) (input : List ℕ) (a b : Option ToolStatus) → IsDue command input a → IsDue command input b → a ≡ b
 one_due command input a b p q = one_due_parts command (parts_of command input) a b p q
 
--- ---- the statuses of an input that is refused
+-- ---- the statuses of an input that is refused, by the command
 
-abbrev pub IsOfInput : ToolStatus → Type 0
-IsOfInput (Core Whole) = ⊥
-IsOfInput (Core Memory) = ⊥
-IsOfInput (Core Usage) = ⊥
-IsOfInput (Core ReadFault) = ⊥
-IsOfInput (Core WriteFault) = ⊥
-IsOfInput (Core (NotLitmus kind line)) = Unit {0}
-IsOfInput (Core (OutsideProfile atom kind)) = Unit {0}
-IsOfInput (Core (Limit over)) = Unit {0}
-IsOfInput NoSection = Unit {0}
-IsOfInput (BadLine line) = Unit {0}
-IsOfInput TooLong = ⊥
-IsOfInput Events = Unit {0}
-IsOfInput (SeveralWriters location) = Unit {0}
+abbrev pub IsOfText : Over → Type 0
+IsOfText Input = Unit {0}
+IsOfText Threads = Unit {0}
+IsOfText Locations = Unit {0}
+IsOfText Instructions = Unit {0}
+IsOfText Atoms = Unit {0}
+IsOfText Frames = ⊥
 
-some_of : (s t : ToolStatus) → Some s ≡ Some t → IsOfInput s → IsOfInput t
-some_of s t e of = let same : s ≡ t = cc in subst IsOfInput same of
+abbrev pub IsOfInput : Command → ToolStatus → Type 0
+IsOfInput command (Core Whole) = ⊥
+IsOfInput command (Core Memory) = ⊥
+IsOfInput command (Core Usage) = ⊥
+IsOfInput command (Core ReadFault) = ⊥
+IsOfInput command (Core WriteFault) = ⊥
+IsOfInput command (Core (NotLitmus kind line)) = Unit {0}
+IsOfInput command (Core (OutsideProfile atom kind)) = command ≡ Verdict
+IsOfInput command (Core (Limit over)) = IsOfText over
+IsOfInput command NoSection = Unit {0}
+IsOfInput command (BadLine line) = Unit {0}
+IsOfInput command TooLong = ⊥
+IsOfInput command Events = Unit {0}
+IsOfInput command (SeveralWriters location) = Unit {0}
+
+some_of : (command : Command) (s t : ToolStatus) → Some s ≡ Some t → IsOfInput command s → IsOfInput command t
+some_of command s t e of = let same : s ≡ t = cc in subst (IsOfInput command) same of
 
 -- whatever is due is such a status
-abbrev pub Gives : Option ToolStatus → Type 0
-Gives due = (s : ToolStatus) → due ≡ Some s → IsOfInput s
+abbrev pub Gives : Command → Option ToolStatus → Type 0
+Gives command due = (s : ToolStatus) → due ≡ Some s → IsOfInput command s
 
-of_none : Gives None
-of_none s e = absurd (cc)
+of_none : (command : Command) → Gives command None
+of_none command s e = absurd (cc)
 
-of_first : (a b : Option ToolStatus) → Gives a → Gives b → Gives (first_due a b)
-of_first None b p q = q
-of_first (Some t) b p q = p
+of_first : (command : Command) (a b : Option ToolStatus) → Gives command a → Gives command b → Gives command (first_due a b)
+of_first command None b p q = q
+of_first command (Some t) b p q = p
 
-of_lines : {X : Type 0} (r : Result X ℕ) → Gives (due_for_lines r)
-of_lines (Ok x) = of_none
-of_lines (Err line) = λ s e. some_of (BadLine line) s e tt
+of_lines : {X : Type 0} (command : Command) (r : Result X ℕ) → Gives command (due_for_lines r)
+of_lines command (Ok x) = of_none command
+of_lines command (Err line) = λ s e. some_of command (BadLine line) s e tt
 
-of_location : (o : Option ℕ) → Gives (option_map SeveralWriters o)
-of_location None = of_none
-of_location (Some x) = λ s e. some_of (SeveralWriters x) s e tt
+of_location : (command : Command) (o : Option ℕ) → Gives command (option_map SeveralWriters o)
+of_location command None = of_none command
+of_location command (Some x) = λ s e. some_of command (SeveralWriters x) s e tt
 
-of_count : (many : Bool) → Gives (if many then Some Events else None)
-of_count true = λ s e. some_of Events s e tt
-of_count false = of_none
+of_count : (command : Command) (many : Bool) → Gives command (if many then Some Events else None)
+of_count command true = λ s e. some_of command Events s e tt
+of_count command false = of_none command
 
-of_witness : (test : LitmusTest) (n : ℕ) → Gives (due_for_witness test n)
-of_witness test n = of_first (due_for_writers test) (due_for_events test n) (of_location _) (of_count (nat_lt 1000000 (most_events_of test n)))
+of_witness : (command : Command) (test : LitmusTest) (n : ℕ) → Gives command (due_for_witness test n)
+of_witness command test n =
+    of_first command (due_for_writers test) (due_for_events test n)
+    (of_location command _) (of_count command (nat_lt 1000000 (most_events_of test n)))
 
-of_profile : (profile : Profile) → Gives (option_map Core (due_for_atoms profile))
-of_profile inside = of_none
-of_profile (outside atom kind) = λ s e. some_of (Core (OutsideProfile atom _)) s e tt
+of_profile : (profile : Profile) → Gives Verdict (option_map Core (due_for_atoms profile))
+of_profile inside = of_none Verdict
+of_profile (outside atom kind) = λ s e. some_of Verdict (Core (OutsideProfile atom _)) s e refl
 
-of_test : (command : Command) (test : LitmusTest) (parts : Split) → Gives (due_for_test command test parts)
-of_test Judge test parts = of_lines (events_of parts.line parts.lines)
+of_test : (command : Command) (test : LitmusTest) (parts : Split) → Gives command (due_for_test command test parts)
+of_test Judge test parts = of_lines Judge (events_of parts.line parts.lines)
 of_test Order test parts =
-    of_first (due_for_witness test parts.iterations) (due_for_lines (section_logs test parts))
-    (of_witness test parts.iterations) (of_lines (section_logs test parts))
-of_test (Witness n) test parts = of_witness test n
+    of_first Order (due_for_witness test parts.iterations) (due_for_lines (section_logs test parts))
+    (of_witness Order test parts.iterations) (of_lines Order (section_logs test parts))
+of_test (Witness n) test parts = of_witness (Witness n) test n
 of_test Verdict test parts = of_profile (profile_of test)
-of_test (Skew n) test parts = of_none
+of_test (Skew n) test parts = of_none (Skew n)
 
-of_reading : (command : Command) (parts : Split) (answer : Answer) → Gives (due_for_reading command parts answer)
-of_reading command parts (Unread refusal) = λ s e. some_of (Core (NotLitmus _ refusal.line)) s e tt
-of_reading command parts (TooLarge limit) = λ s e. some_of (Core (Limit _)) s e tt
+of_shape : (shape : Shape) → IsOfText (over_of shape)
+of_shape shapes.Threads = tt
+of_shape shapes.Locations = tt
+of_shape shapes.Instrs = tt
+of_shape shapes.Atoms = tt
+
+of_reading : (command : Command) (parts : Split) (answer : Answer) → Gives command (due_for_reading command parts answer)
+of_reading command parts (Unread refusal) = λ s e. some_of command (Core (NotLitmus _ refusal.line)) s e tt
+of_reading command parts (TooLarge limit) = λ s e. some_of command (Core (Limit _)) s e (of_shape limit)
 of_reading command parts (Accepted test) = of_test command test parts
 
 of_parts_by : (command : Command) (parts : Split) (long : Bool) (s : ToolStatus)
-    → MatchBool long (Some s ≡ Some (Core (Limit Input))) (IsDueForText command parts (Some s)) → IsOfInput s
-of_parts_by command parts true s due = some_of (Core (Limit Input)) s (sym due) tt
+    → MatchBool long (Some s ≡ Some (Core (Limit Input))) (IsDueForText command parts (Some s)) → IsOfInput command s
+of_parts_by command parts true s due = some_of command (Core (Limit Input)) s (sym due) tt
 of_parts_by command parts false s due = of_reading command parts due.answer s due.is
 
-of_parts : (command : Command) (parts : Option Split) (s : ToolStatus) → IsDueForParts command parts (Some s) → IsOfInput s
-of_parts command None s due = some_of NoSection s (sym due) tt
+of_parts : (command : Command) (parts : Option Split) (s : ToolStatus) → IsDueForParts command parts (Some s) → IsOfInput command s
+of_parts command None s due = some_of command NoSection s (sym due) tt
 of_parts command (Some parts) s due = of_parts_by command parts (nat_lt 65536 (length parts.litmus)) s due
 
-pub of_input : (command : Command) (input : List ℕ) (s : ToolStatus) → IsDue command input (Some s) → IsOfInput s
+pub of_input : (command : Command) (input : List ℕ) (s : ToolStatus) → IsDue command input (Some s) → IsOfInput command s
 of_input command input s due = of_parts command (parts_of command input) s due
 
 -- ---- what is due for the parts of an input is due for the input

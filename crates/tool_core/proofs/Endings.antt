@@ -7,7 +7,8 @@ use Rattle.tso_words.specs.Seats.{Ended as Closed}
 use Rattle.litmus_reader.specs.Answer.{Accepted}
 use Rattle.litmus_reader.specs.Reading.{Reads}
 use Rattle.litmus_reader.proofs.ReadingLaws.{one_reading}
-use Rattle.report_text.specs.declared.status.Status.TheVariants.{Whole, Memory, Usage, ReadFault, WriteFault}
+use Rattle.report_text.specs.declared.status.Over.TheVariants.{Frames}
+use Rattle.report_text.specs.declared.status.Status.TheVariants.{Whole, Memory, Usage, ReadFault, WriteFault, OutsideProfile, Limit}
 use Rattle.perp_base.specs.Bytes.{IsOver}
 use Rattle.run_text.specs.Sections.{Split}
 use Rattle.program_edge.specs.View.{View}
@@ -17,7 +18,7 @@ use Rattle.tool_core.specs.Words.{command_of}
 use Rattle.tool_core.specs.Due.{IsDue, Refused, Took, all_litmus, most_bytes, parts_of}
 use Rattle.tool_core.specs.Due.Refused.{no_memory, no_command, no_reading, too_long, no_input}
 use Rattle.tool_core.specs.Texts.{options_of}
-use Rattle.tool_core.specs.Top.{Answers, AnswersDue, AnswersTooLong, Completes, Ended, HasAnswer, HasRun, IsAfterReading, IsAnswer, IsField, IsStillCommand, IsText, IsUsage, KeepsSource, Leaves, RanFor, ReadsToEnd, RunFits, Told, WritesPart, WritesWhole, WroteAsTool, iterations_run}
+use Rattle.tool_core.specs.Top.{Answers, AnswersDue, AnswersTooLong, Completes, Ended, HasAnswer, HasRun, IsAfterReading, IsAnswer, IsField, IsStillCommand, IsText, IsUsage, KeepsSource, Leaves, RanFor, ReadsToEnd, RunFits, SuitsCommand, Told, WritesPart, WritesWhole, WroteAsTool, iterations_run}
 use Rattle.tool_core.specs.Top.Ended.{ended_refused, ended_whole, ended_part}
 use Rattle.tool_core.specs.declared.words.Command.{Command}
 use Rattle.tool_core.specs.declared.words.Command.TheVariants.{Judge, Order, Witness, Verdict, Skew}
@@ -78,7 +79,7 @@ usage_only words old new done out_old out_new untouched _ (ended_refused _ (no_c
 usage_only words old new done out_old out_new untouched _ (ended_refused _ (no_reading is rose) ran kept) = λ e. absurd (cc)
 usage_only words old new done out_old out_new untouched _ (ended_refused _ (too_long is over) ran kept) = λ e. absurd (cc)
 usage_only words old new done out_old out_new untouched _ (ended_refused _ (no_input status command taken took due) ran kept) = λ e.
-    absurd (subst IsOfInput e (of_input command taken status due))
+    absurd (subst (IsOfInput command) e (of_input command taken status due))
 
 usage_each : (words : List (List ℕ)) (old new : View) (done : Closed) (out_old out_new : View) (untouched : Type 0) (status : ToolStatus)
     → Ended words old new done out_old out_new untouched status → command_of words ≡ None → (status ≡ Core Usage) ⊎ (status ≡ Core Memory)
@@ -106,7 +107,29 @@ kept_of words old new done out_old out_new untouched _ (ended_refused _ (no_comm
 kept_of words old new done out_old out_new untouched _ (ended_refused _ (no_reading is rose) ran kept) = λ e. absurd (cc)
 kept_of words old new done out_old out_new untouched _ (ended_refused _ (too_long is over) ran kept) = λ e. absurd (cc)
 kept_of words old new done out_old out_new untouched _ (ended_refused _ (no_input status command taken took due) ran kept) = λ e.
-    absurd (subst IsOfInput e (of_input command taken status due))
+    absurd (subst (IsOfInput command) e (of_input command taken status due))
+
+-- ---- refusals that are not each command's
+
+neither : (words : List (List ℕ)) (status : ToolStatus) → ((atom kind : ℕ) → status ≡ Core (OutsideProfile atom kind) → ⊥)
+    → (status ≡ Core (Limit Frames) → ⊥) → SuitsCommand words status
+neither words status profile frames = record { outside_profile = λ atom kind e. absurd (profile atom kind e); frames = frames }
+
+pub suits_of : (words : List (List ℕ)) (old new : View) (done : Closed) (out_old out_new : View) (untouched : Type 0) (status : ToolStatus)
+    → Ended words old new done out_old out_new untouched status → SuitsCommand words status
+suits_of words old new done out_old out_new untouched _ (ended_whole text answers written) = neither words _ (λ _ _ e. cc) (λ e. cc)
+suits_of words old new done out_old out_new untouched _ (ended_part text answers rose written) = neither words _ (λ _ _ e. cc) (λ e. cc)
+suits_of words old new done out_old out_new untouched _ (ended_refused _ no_memory ran kept) = neither words _ (λ _ _ e. cc) (λ e. cc)
+suits_of words old new done out_old out_new untouched _ (ended_refused _ (no_command none same) ran kept) =
+    neither words _ (λ _ _ e. cc) (λ e. cc)
+suits_of words old new done out_old out_new untouched _ (ended_refused _ (no_reading is rose) ran kept) =
+    neither words _ (λ _ _ e. cc) (λ e. cc)
+suits_of words old new done out_old out_new untouched _ (ended_refused _ (too_long is over) ran kept) =
+    neither words _ (λ _ _ e. cc) (λ e. cc)
+suits_of words old new done out_old out_new untouched _ (ended_refused _ (no_input status command taken took due) ran kept) = record {
+  outside_profile = λ atom kind e. took.command_is ∙ ap Some (subst (IsOfInput command) e (of_input command taken status due));
+  frames = λ e. subst (IsOfInput command) e (of_input command taken status due);
+}
 
 -- ---- completeness
 
@@ -243,7 +266,7 @@ refused_is_no_text words old new _ (no_command none same) = (λ e. cc, λ e. cc)
 refused_is_no_text words old new _ (no_reading is rose) = (λ e. cc, λ e. cc)
 refused_is_no_text words old new _ (too_long is over) = (λ e. cc, λ e. cc)
 refused_is_no_text words old new _ (no_input status command taken took due) =
-    (λ e. subst IsOfInput e (of_input command taken status due), λ e. subst IsOfInput e (of_input command taken status due))
+    (λ e. subst (IsOfInput command) e (of_input command taken status due), λ e. subst (IsOfInput command) e (of_input command taken status due))
 
 pub whole_of : (words : List (List ℕ)) (old new : View) (done : Closed) (out_old out_new : View) (untouched : Type 0) (status : ToolStatus)
     → Ended words old new done out_old out_new untouched status → WritesWhole words old done out_old out_new status

@@ -6,6 +6,7 @@ use Rattle.x86_subset.specs.Test.{LitmusTest}
 use Rattle.tso_words.specs.Seats.{Ended as Closed}
 use Rattle.litmus_reader.specs.Answer.{Accepted}
 use Rattle.litmus_reader.specs.Reading.{Reads}
+use Rattle.report_text.specs.declared.status.Over.TheVariants.{Frames}
 use Rattle.report_text.specs.declared.status.Status.TheVariants.{Whole, Memory, Usage, ReadFault, WriteFault, NotLitmus, OutsideProfile, Limit}
 use Rattle.perp_base.specs.Bytes.{AppendsPart}
 use Rattle.perp_base.specs.Causes.{Rose}
@@ -138,6 +139,11 @@ abbrev pub AnswersTooLong : List (List ℕ) → View → View → ToolStatus →
 AnswersTooLong words old new status = (command : Command) (input : List ℕ)
     → Told words old command input → most_bytes < length input
     → ((status ≡ TooLong) × (new.bytes ≡ Some (drop 16777217 input))) ⊎ ((status ≡ Core Memory) ⊎ ((status ≡ Core ReadFault) × Rose old.faults new.faults))
+
+-- That a test is outside the profile is answered for `verdict` alone, and the limit of frames for no command.
+pub record SuitsCommand (words : List (List ℕ)) (status : ToolStatus) : Type 0 where
+  pub outside_profile : (atom kind : ℕ) → status ≡ Core (OutsideProfile atom kind) → command_of words ≡ Some Verdict
+  pub frames : status ≡ Core (Limit Frames) → ⊥
 
 -- the statuses before which the input was read to its end
 abbrev pub IsAfterReading : ToolStatus → Type 0

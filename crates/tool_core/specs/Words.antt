@@ -1,27 +1,28 @@
 -- The words of the second program, and the command that they name. This project's own.
-use Rattle.std.specs.Prelude.{ℕ, ◌≤◌, List, [], ◌∷◌, Option, Some, None, codes, if◌then◌else◌, option_map}
+use Rattle.std.specs.Prelude.{◌≤◌, ℕ, List, [], ◌∷◌, Option, Some, None, codes, if◌then◌else◌, option_map}
 use Rattle.std.specs.Str.{bytes_eq}
-use Rattle.run_text.specs.Numbers.{large_number}
-use Rattle.run_text.specs.Sections.{within_iterations}
+use Rattle.command_words.specs.Words.{iterations_in}
 use Rattle.tool_core.specs.declared.words.Command.{Command}
 use Rattle.tool_core.specs.declared.words.Command.TheVariants.{Judge, Order, Witness, Verdict, Skew}
 
 -- a command that takes no further word
-abbrev pub named_alone : List ℕ → Option Command
-named_alone name =
-    if bytes_eq name (codes "judge") then Some Judge
-    else if bytes_eq name (codes "order") then Some Order
-    else if bytes_eq name (codes "verdict") then Some Verdict else None
+abbrev pub alone : Command → List (List ℕ) → Option Command
+alone command [] = Some command
+alone command (word ∷ rest) = None
 
--- a command that takes the number of iterations
-abbrev pub named_with : List ℕ → ℕ → Option Command
-named_with name n =
-    if bytes_eq name (codes "witness") then Some (Witness n)
-    else if bytes_eq name (codes "skew") then Some (Skew n) else None
+-- the command of this name and the words after it: the number of iterations, 1 to 100,000, where the command takes it
+abbrev pub named_in : List ℕ → List (List ℕ) → Option Command
+named_in name words =
+    if bytes_eq name (codes "judge") then alone Judge words
+    else if bytes_eq name (codes "order") then alone Order words
+    else if bytes_eq name (codes "witness") then option_map Witness (iterations_in words)
+    else if bytes_eq name (codes "verdict") then alone Verdict words
+    else if bytes_eq name (codes "skew") then option_map Skew (iterations_in words) else None
 
-abbrev pub counted : List ℕ → Option ℕ → Option Command
-counted name None = None
-counted name (Some n) = named_with name n
+-- the command that the words name, if any
+abbrev pub command_of : List (List ℕ) → Option Command
+command_of [] = None
+command_of (name ∷ words) = named_in name words
 
 -- the number of iterations of a command is within its limits
 abbrev pub HasIterations : Command → Type 0
@@ -30,9 +31,3 @@ HasIterations Order = Unit {0}
 HasIterations (Witness n) = (1 ≤ n) × (n ≤ 100000)
 HasIterations Verdict = Unit {0}
 HasIterations (Skew n) = (1 ≤ n) × (n ≤ 100000)
-
--- the command that the words name, if any: one word, and the number of iterations (1 to 100,000) where the command takes it
-abbrev pub command_of : List (List ℕ) → Option Command
-command_of (name ∷ []) = named_alone name
-command_of (name ∷ n ∷ []) = counted name (within_iterations (large_number n))
-command_of _ = None

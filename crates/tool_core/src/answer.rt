@@ -11,6 +11,7 @@ use crate::parts::parts_in;
 use crate::status::ToolStatus;
 use crate::words::{Command, read_words};
 use crate::work::{Answered, work};
+use command_words::WordsError;
 use perp_base::{ReadError, Source, read_input};
 use perp_loop::Gate;
 use program_edge::{MOST_BYTES, read_test};
@@ -81,8 +82,14 @@ pub fn answer<R: Threads + Sync, S: Source, G: Gate>(
     ensures done { IfErr result.text (Leaves (map string_bytes words.now) (seen S.left S.faults source.old) (seen S.left S.faults source.new) result.done) }
     ensures kind { IfErr result.text HasToolKind }
 {
-    let Some(command) = read_words(words) else {
-        return Answered::still(Err(ToolStatus::Core(Status::Usage)), field);
+    let command = match read_words(alloc, words) {
+        Ok(command) => command,
+        Err(WordsError::Usage) => {
+            return Answered::still(Err(ToolStatus::Core(Status::Usage)), field);
+        }
+        Err(WordsError::Memory) => {
+            return Answered::still(Err(ToolStatus::Core(Status::Memory)), field);
+        }
     };
     let input = match read_all(alloc, source) {
         Ok(input) => input,

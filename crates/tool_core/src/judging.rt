@@ -85,8 +85,6 @@ pub fn judge_section(
         Err(SectionError::Bad { line }) => return Err(ToolStatus::BadLine { line }),
         Err(SectionError::Memory) => return Err(ToolStatus::Core(Status::Memory)),
     };
-    match judged(alloc, test, section.iterations, &events) {
-        Ok(text) => Ok(text),
-        Err(_) => Err(ToolStatus::Core(Status::Memory)),
-    }
+    let text = judged(alloc, test, section.iterations, &events)?;
+    Ok(text)
 }

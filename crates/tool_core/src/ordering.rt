@@ -105,22 +105,16 @@ pub fn order_section(
         ⊎ (due_for_test Command.Order test.now (seen section.now) ≡ Some status)) }
     ensures kind { IfErr result HasToolKind }
 {
-    let Ok(sequences) = Sequences::of(alloc, test) else {
-        return Err(ToolStatus::Core(Status::Memory));
-    };
+    let sequences = Sequences::of(alloc, test)?;
     if let Some(status) = witness_refusal(test, &sequences, section.iterations) {
         return Err(status);
     }
-    let Ok(columns) = columns_in(alloc, test) else {
-        return Err(ToolStatus::Core(Status::Memory));
-    };
+    let columns = columns_in(alloc, test)?;
     let logs = match read_logs(alloc, &columns, section) {
         Ok(logs) => logs,
         Err(SectionError::Bad { line }) => return Err(ToolStatus::BadLine { line }),
         Err(SectionError::Memory) => return Err(ToolStatus::Core(Status::Memory)),
     };
-    match order_text(alloc, test, &sequences, section.iterations, &logs) {
-        Ok(text) => Ok(text),
-        Err(_) => Err(ToolStatus::Core(Status::Memory)),
-    }
+    let text = order_text(alloc, test, &sequences, section.iterations, &logs)?;
+    Ok(text)
 }

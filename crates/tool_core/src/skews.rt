@@ -13,7 +13,8 @@ use crate::status::ToolStatus;
 use crate::work::Answered;
 use load_log::Logs;
 use perp_base::NoMemory;
-use perp_loop::{Crew, Gate, run_threads};
+use perp_loop::Gate;
+use program_edge::{Ran, run_test};
 use report_text::Status;
 use seq_conv::Sequences;
 use skew::{SkewRow, skew, skew_line};
@@ -74,19 +75,16 @@ pub fn skew_run<R: Threads + Sync, G: Gate>(
     let Ok(sequences) = Sequences::of(alloc, test) else {
         return Answered::still(Err(ToolStatus::Core(Status::Memory)), field);
     };
-    let options = options_of(n);
-    let Ok(crew) = Crew::new(alloc, test, &sequences, &options) else {
-        return Answered::still(Err(ToolStatus::Core(Status::Memory)), field);
-    };
-    let (done, logs) = run_threads(rt, field, crew, gate);
-    match logs_text(rt, alloc, test, &sequences, &logs, n) {
-        Ok(text) => Answered {
-            text: Ok(text),
-            done,
-        },
-        Err(_) => Answered {
+    let Ran { done, logs } = run_test(rt, alloc, test, &sequences, &options_of(n), field, gate);
+    let Ok(logs) = logs else {
+        return Answered {
             text: Err(ToolStatus::Core(Status::Memory)),
             done,
-        },
+        };
+    };
+    let text = logs_text(rt, alloc, test, &sequences, &logs, n);
+    Answered {
+        text: text.map_err(|_| ToolStatus::Core(Status::Memory)),
+        done,
     }
 }

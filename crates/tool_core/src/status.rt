@@ -1,7 +1,10 @@
 //! How a call of the second program ends, and the line that says so.
 ghost use Rattle.std.specs.Prelude.{◌≡◌};
+ghost use Rattle.report_text.specs.declared.status.Status.TheVariants.{Memory};
 ghost use Rattle.tool_core.specs.Status.{HasToolKind, tool_line, tool_number};
+ghost use Rattle.tool_core.specs.declared.status.ToolStatus.TheVariants.{Core};
 
+use perp_base::NoMemory;
 use report_text::{Line, Status, refusal_text};
 
 /// How a call of the second program ended.
@@ -19,6 +22,24 @@ pub enum ToolStatus {
     Events,
     /// The stores of this location, the first such, stand in several threads.
     SeveralWriters { location: u32 },
+}
+
+/// So that `?` answers want of memory.
+impl From<NoMemory> for ToolStatus {
+    ghost from_gives = { λ _ status. status ≡ Core Memory };
+
+    fn from(_: NoMemory) -> ToolStatus {
+        ToolStatus::Core(Status::Memory)
+    }
+}
+
+/// So that `?` answers a refusal of the litmus part.
+impl From<Status> for ToolStatus {
+    ghost from_gives = { λ refusal status. status ≡ Core refusal };
+
+    fn from(refusal: Status) -> ToolStatus {
+        ToolStatus::Core(refusal)
+    }
 }
 
 impl ToolStatus {

@@ -1,7 +1,13 @@
 // Calls of the second program over memory sources and sinks, row by row.
+ghost use Rattle.std.specs.Prelude.{◌<◌, None, length};
+ghost use Rattle.std.specs.Io.{ReadsAtMost};
+ghost use Rattle.std.specs.Io.KnownBytes.{ReadConsumes};
+ghost use Rattle.perp_base.specs.Causes.{HasCause};
+
 use super::*;
-use perp_base::{MemSink, MemSource};
+use perp_base::{Failed, MemSink, MemSource, Source};
 use std::alloc::Global;
+use std::process::Abort;
 use std::test::Fail;
 use std::thread::Threads;
 
@@ -30,6 +36,10 @@ const EITHER: &str =
     "X86 SBF\n{ }\n P0 | P1 ;\n MOV [x],$1 | MOV [y],$1 ;\n MFENCE | MFENCE ;\n MOV EAX,[y] | MOV EAX,[x] ;\nexists (0:EAX=0 /\\ 1:EAX=0 \\/ 0:EAX=1)\n";
 
 const W2: &str = "X86 W2\n{ }\n P0 | P1 | P2 ;\n MOV [x],$1 | MOV [x],$2 | MOV EAX,[x] ;\n";
+
+// The stores of the second location stand in two threads, and 100,000 iterations have 1,200,000 events.
+const BUSY: &str =
+    "X86 BUSY\n{ x=0; y=0; }\n P0 | P1 ;\n MOV [x],$1 | MOV EAX,[x] ;\n MOV [y],$1 | MOV [y],$2 ;\n MOV EAX,[y] | MOV EBX,[y] ;\nexists (0:EAX=0)\n";
 
 // The words, the input behind SB, the number of the status, and what is written to both sinks.
 const JUDGED: [(&str, &str, u8, &str, &str); 16] = [
@@ -113,6 +123,108 @@ const JUDGED: [(&str, &str, u8, &str, &str); 16] = [
     ),
 ];
 
+// The words, a test, the section behind it, the number of the status, and what is written to both sinks. 13 comes before 12, and both
+// before 10, also where a line is bad or missing.
+const SOUGHT: [(&str, &str, &str, u8, &str, &str); 13] = [
+    (
+        "order",
+        SBF,
+        "%logs 1\nP0 0\nP1 0\n",
+        0,
+        "No order cycle\n",
+        "",
+    ),
+    (
+        "order",
+        OWN,
+        "%logs 1\nP0 0\nP1 1\n",
+        0,
+        "No order value 0 0 0\n",
+        "",
+    ),
+    (
+        "order",
+        SB,
+        "%logs 1\nP0 0\n",
+        10,
+        "",
+        "perple: section line 8\n",
+    ),
+    (
+        "order",
+        SB,
+        "%logs 1\nP0 0 0\nP1 0\n",
+        10,
+        "",
+        "perple: section line 8\n",
+    ),
+    (
+        "order",
+        SB,
+        "%logs 1\nP0 0\nP1 0\n\nP2\n",
+        10,
+        "",
+        "perple: section line 11\n",
+    ),
+    ("order", SB, "%events 1\n", 9, "", "perple: no section\n"),
+    (
+        "order",
+        IRIW,
+        "%logs 100000\n",
+        12,
+        "",
+        "perple: limit events 1000000\n",
+    ),
+    (
+        "order",
+        IRIW,
+        "%logs 100000\nP0 x\n",
+        12,
+        "",
+        "perple: limit events 1000000\n",
+    ),
+    (
+        "order",
+        W2,
+        "exists (2:EAX=2)\n%logs 1\nP9\n",
+        13,
+        "",
+        "perple: location 0 has several writers\n",
+    ),
+    (
+        "order",
+        BUSY,
+        "%logs 100000\nP9\n",
+        13,
+        "",
+        "perple: location 1 has several writers\n",
+    ),
+    (
+        "witness 1",
+        W2,
+        "exists (2:EAX=2)\n",
+        13,
+        "",
+        "perple: location 0 has several writers\n",
+    ),
+    (
+        "witness 100000",
+        BUSY,
+        "",
+        13,
+        "",
+        "perple: location 1 has several writers\n",
+    ),
+    (
+        "witness 100000",
+        IRIW,
+        "",
+        12,
+        "",
+        "perple: limit events 1000000\n",
+    ),
+];
+
 // The words of a line, which stand between single spaces; an empty line has none.
 fn words_of(alloc: Global, line: &str) -> Result<Vec<String>, Fail> {
     let mut words = Vec::new(alloc);
@@ -127,54 +239,67 @@ fn words_of(alloc: Global, line: &str) -> Result<Vec<String>, Fail> {
 
 // How a call ended, what it wrote to both sinks, and the first two words of the field.
 #[derive(Drop)]
-struct Ran {
+struct Called {
     status: ToolStatus,
     out: Vec<u8>,
     err: Vec<u8>,
     words: (u64, u64),
 }
 
-// Which calls of the source and of the output fail.
+// Which calls of the source, of the output and of the error sink fail.
 #[derive(Clone, Copy)]
 struct Failing<'a> {
     reads: &'a [u64],
     writes: &'a [u64],
+    lines: &'a [u64],
 }
 
 const NEVER: Failing<'static> = Failing {
     reads: &[],
     writes: &[],
+    lines: &[],
 };
 
-// A call over a source and sinks that move at most 16 bytes at a time.
+// A call over sinks that move at most 16 bytes at a time.
+fn call_on<R: Threads + Sync, S: Source>(
+    rt: &R,
+    alloc: Global,
+    line: &str,
+    source: &mut S,
+    failing: Failing<'_>,
+) -> Result<Called, Fail> {
+    let words = words_of(alloc, line)?;
+    let mut out = MemSink::new(alloc, 65536, 16, failing.writes)?;
+    let mut err = MemSink::new(alloc, 128, 16, failing.lines)?;
+    let field = Field::new(alloc)?;
+    let outcome = tool(
+        rt, alloc, &words, source, &mut out, &mut err, field, &NoGate,
+    );
+    Ok(Called {
+        status: outcome.status,
+        out: Vec::from_slice(alloc, out.written())?,
+        err: Vec::from_slice(alloc, err.written())?,
+        words: (outcome.done.word(0), outcome.done.word(1)),
+    })
+}
+
+// A call over a source that gives at most 16 bytes at a time.
 fn call<R: Threads + Sync>(
     rt: &R,
     alloc: Global,
     line: &str,
     text: &[u8],
     failing: Failing<'_>,
-) -> Result<Ran, Fail> {
-    let words = words_of(alloc, line)?;
+) -> Result<Called, Fail> {
     let mut source = MemSource::new(alloc, text, 16, failing.reads)?;
-    let mut out = MemSink::new(alloc, 65536, 16, failing.writes)?;
-    let mut err = MemSink::new(alloc, 128, 16, &[])?;
-    let field = Field::new(alloc)?;
-    let outcome = tool(
-        rt,
-        alloc,
-        &words,
-        &mut source,
-        &mut out,
-        &mut err,
-        field,
-        &NoGate,
-    );
-    Ok(Ran {
-        status: outcome.status,
-        out: Vec::from_slice(alloc, out.written())?,
-        err: Vec::from_slice(alloc, err.written())?,
-        words: (outcome.done.word(0), outcome.done.word(1)),
-    })
+    call_on(rt, alloc, line, &mut source, failing)
+}
+
+// The call ended so, and wrote this to its sinks.
+fn assert_ended(rt: &impl Abort, called: &Called, at: &str, status: u8, out: &[u8], err: &str) {
+    assert_eq!(rt; called.status.number(), status, "status at {at}");
+    assert_eq!(rt; called.out.as_slice(), out, "output at {at}");
+    assert_eq!(rt; called.err.as_slice(), err.as_bytes(), "line at {at}");
 }
 
 // The text with a section behind it.
@@ -189,19 +314,15 @@ fn rows_are_answered(rt: HostRuntime) -> Result<(), Fail> {
     let alloc = rt.alloc();
     for (line, section, status, out, err) in JUDGED {
         let input = with_section(alloc, SB, section)?;
-        let ran = call(&rt, alloc, line, &input, NEVER)?;
-        assert_eq!(rt; ran.status.number(), status, "status at {line}: {section}");
-        assert_eq!(rt;
-            ran.out.as_slice(),
-            out.as_bytes(),
-            "output at {line}: {section}"
-        );
-        assert_eq!(rt;
-            ran.err.as_slice(),
-            err.as_bytes(),
-            "line at {line}: {section}"
-        );
-        assert!(rt; ran.words == (0, 0));
+        let called = call(&rt, alloc, line, &input, NEVER)?;
+        assert_ended(&rt, &called, section, status, out.as_bytes(), err);
+        assert!(rt; called.words == (0, 0));
+    }
+    for (line, text, section, status, out, err) in SOUGHT {
+        let input = with_section(alloc, text, section)?;
+        let called = call(&rt, alloc, line, &input, NEVER)?;
+        assert_ended(&rt, &called, section, status, out.as_bytes(), err);
+        assert!(rt; called.words == (0, 0));
     }
     Ok(())
 }
@@ -228,11 +349,14 @@ fn verdicts_are_given(rt: HostRuntime) -> Result<(), Fail> {
     }
     let outside = with_section(alloc, W2, "exists (2:EAX=0)\n")?;
     let ran = call(&rt, alloc, "verdict", &outside, NEVER)?;
-    assert_eq!(rt;
-        ran.err.as_slice(),
-        b"perple: atom 1: kind 7 SeveralWriters\n".as_slice()
+    assert_ended(
+        &rt,
+        &ran,
+        W2,
+        6,
+        b"",
+        "perple: atom 1: kind 7 SeveralWriters\n",
     );
-    assert!(rt; ran.status.number() == 6 && ran.out.is_empty());
     Ok(())
 }
 
@@ -254,132 +378,211 @@ fn skews_are_told(rt: HostRuntime) -> Result<(), Fail> {
     Ok(())
 }
 
-// A test, the section behind it, the number of the status, and what is written to both sinks.
-const ORDERED: [(&str, &str, u8, &str, &str); 7] = [
-    (SBF, "%logs 1\nP0 0\nP1 0\n", 0, "No order cycle\n", ""),
+// The words, a test, the section behind it, what `judge` says of the run that is written, and the field's first two words. Of each
+// iteration each store has two events, and each other action has one.
+const FOUND: [(&str, &str, &str, &str, (u64, u64)); 5] = [
+    ("order", SB, "%logs 1\nP0 0\nP1 0\n", "Legal 6\n", (0, 0)),
     (
-        OWN,
-        "%logs 1\nP0 0\nP1 1\n",
-        0,
-        "No order value 0 0 0\n",
-        "",
+        "order",
+        MP,
+        "%logs 2\nP0\nP1 0 0 2 2\n",
+        "Legal 12\n",
+        (0, 0),
     ),
-    (SB, "%logs 1\nP0 0\n", 10, "", "perple: section line 8\n"),
-    (
-        SB,
-        "%logs 1\nP0 0 0\nP1 0\n",
-        10,
-        "",
-        "perple: section line 8\n",
-    ),
-    (
-        SB,
-        "%logs 1\nP0 0\nP1 0\n\nP2\n",
-        10,
-        "",
-        "perple: section line 11\n",
-    ),
-    (SB, "%events 1\n", 9, "", "perple: no section\n"),
-    (
-        IRIW,
-        "%logs 100000\n",
-        12,
-        "",
-        "perple: limit events 1000000\n",
-    ),
+    ("witness 300", SBF, "", "Legal 2400\n", (300, 300)),
+    ("witness 7", OWN, "", "Legal 42\n", (7, 7)),
+    ("witness 20", IRIW, "", "Legal 160\n", (20, 20)),
 ];
 
+/// What `order` and `witness` write is a section that `judge` finds legal.
 #[test]
-fn orders_are_found(rt: HostRuntime) -> Result<(), Fail> {
+fn found_runs_are_legal(rt: HostRuntime) -> Result<(), Fail> {
     let alloc = rt.alloc();
-    for (text, section, status, out, err) in ORDERED {
+    for (line, text, section, legal, words) in FOUND {
         let input = with_section(alloc, text, section)?;
-        let ran = call(&rt, alloc, "order", &input, NEVER)?;
-        assert_eq!(rt; ran.status.number(), status, "status at {text}{section}");
-        assert_eq!(rt;
-            ran.out.as_slice(),
-            out.as_bytes(),
-            "output at {text}{section}"
-        );
-        assert_eq!(rt;
-            ran.err.as_slice(),
-            err.as_bytes(),
-            "line at {text}{section}"
-        );
+        let found = call(&rt, alloc, line, &input, NEVER)?;
+        assert!(rt; found.words == words, "field at {line}: {text}");
+        let mut told = Vec::from_slice(alloc, text.as_bytes())?;
+        told.extend_from_slice(&found.out)?;
+        let judged = call(&rt, alloc, "judge", &told, NEVER)?;
+        assert_ended(&rt, &judged, text, 0, legal.as_bytes(), "");
     }
     Ok(())
 }
 
-// Judges what a call wrote, as a section behind the text.
-fn judged<R: Threads + Sync>(
-    rt: &R,
-    alloc: Global,
-    text: &str,
-    ran: &Ran,
-) -> Result<Vec<u8>, Fail> {
-    let mut input = Vec::from_slice(alloc, text.as_bytes())?;
-    input.extend_from_slice(&ran.out)?;
-    let judged = call(rt, alloc, "judge", &input, NEVER)?;
-    Ok(judged.out)
-}
+// The lines of a section, how each is answered while it is cut, and what is written once it is whole.
+const GROWING: [(&str, u8, &str, &str); 7] = [
+    (
+        "%events 1",
+        9,
+        "perple: no section\n",
+        "Wrong 1 kind 6 Short\n",
+    ),
+    (
+        "P0 0 0 push",
+        10,
+        "perple: section line 8\n",
+        "Wrong 2 kind 6 Short\n",
+    ),
+    (
+        "P0 0 1 read 0",
+        10,
+        "perple: section line 9\n",
+        "Wrong 3 kind 6 Short\n",
+    ),
+    (
+        "P0 0 0 drain",
+        10,
+        "perple: section line 10\n",
+        "Wrong 4 kind 6 Short\n",
+    ),
+    (
+        "P1 0 0 push",
+        10,
+        "perple: section line 11\n",
+        "Wrong 5 kind 6 Short\n",
+    ),
+    (
+        "P1 0 1 read 1",
+        10,
+        "perple: section line 12\n",
+        "Wrong 6 kind 6 Short\n",
+    ),
+    ("P1 0 0 drain", 10, "perple: section line 13\n", "Legal 6\n"),
+];
 
+/// Each prefix of a test with its section: up to the whole section line there is none, then a line that is cut is bad.
 #[test]
-fn found_runs_are_legal(rt: HostRuntime) -> Result<(), Fail> {
+fn prefixes_are_answered(rt: HostRuntime) -> Result<(), Fail> {
     let alloc = rt.alloc();
-    let input = with_section(alloc, SB, "%logs 1\nP0 0\nP1 0\n")?;
-    let ran = call(&rt, alloc, "order", &input, NEVER)?;
-    let legal = judged(&rt, alloc, SB, &ran)?;
-    assert_eq!(rt; legal.as_slice(), b"Legal 6\n".as_slice());
-    let ran = call(&rt, alloc, "witness 300", SBF.as_bytes(), NEVER)?;
-    assert!(rt; ran.words == (300, 300));
-    let legal = judged(&rt, alloc, SBF, &ran)?;
-    assert_eq!(rt; legal.as_slice(), b"Legal 2400\n".as_slice());
-    let several = with_section(alloc, W2, "exists (2:EAX=2)\n")?;
-    let ran = call(&rt, alloc, "witness 1", &several, NEVER)?;
-    assert_eq!(rt;
-        ran.err.as_slice(),
-        b"perple: location 0 has several writers\n".as_slice()
-    );
-    let ran = call(&rt, alloc, "witness 100000", IRIW.as_bytes(), NEVER)?;
-    assert!(rt; ran.status == ToolStatus::Events && ran.out.is_empty());
+    let sb = SB.as_bytes();
+    for len in 0..=sb.len() {
+        let called = call(&rt, alloc, "judge", &sb[..len], NEVER)?;
+        assert_ended(&rt, &called, SB, 9, b"", "perple: no section\n");
+    }
+    let mut input = Vec::from_slice(alloc, sb)?;
+    for (line, status, err, out) in GROWING {
+        let before = input.len();
+        input.extend_from_slice(line.as_bytes())?;
+        for len in before + 1..input.len() {
+            let called = call(&rt, alloc, "judge", &input[..len], NEVER)?;
+            assert_ended(&rt, &called, line, status, b"", err);
+        }
+        let called = call(&rt, alloc, "judge", &input, NEVER)?;
+        assert_ended(&rt, &called, line, 0, out.as_bytes(), "");
+        input.push(b'\n')?;
+        let called = call(&rt, alloc, "judge", &input, NEVER)?;
+        assert_ended(&rt, &called, line, 0, out.as_bytes(), "");
+    }
     Ok(())
 }
 
-/// A litmus part of 65,536 bytes is taken, and one of a byte more is not, whatever the section's length.
+// A source of blanks without an end.
+#[derive(Clone, Copy)]
+struct Blanks;
+
+impl Source for Blanks {
+    ghost left = { λ source. None };
+
+    ghost faults = { λ source. 0 };
+
+    fn read(&mut self, buf: &mut [u8]) -> Result<usize, Failed>
+        requires { 0 < length buf.old }
+        ensures bound { ReadsAtMost result buf.new }
+        ensures bytes { ReadConsumes None None result buf.new }
+        ensures cause { HasCause 0 0 result }
+    {
+        buf.fill(b' ');
+        Ok(buf.len())
+    }
+}
+
+/// A litmus part of 65,536 bytes is taken, and one of a byte more is not, whatever the section's length. Nor is an input without an end.
 #[test]
-fn long_parts_are_refused(rt: HostRuntime) -> Result<(), Fail> {
+fn long_inputs_are_refused(rt: HostRuntime) -> Result<(), Fail> {
     let alloc = rt.alloc();
-    for (more, status) in [(0, 0), (1, 7)] {
+    let rows = [
+        (0, 0, "Wrong 1 kind 6 Short\n", ""),
+        (1, 7, "", "perple: limit input 65536\n"),
+    ];
+    for (more, status, out, err) in rows {
         let mut input = Vec::from_slice(alloc, SB.as_bytes())?;
         while input.len() < 65535 + more {
             input.push(b' ')?;
         }
         input.extend_from_slice(b"\n%events 1\n")?;
-        let ran = call(&rt, alloc, "judge", &input, NEVER)?;
-        assert_eq!(rt; ran.status.number(), status);
+        let called = call(&rt, alloc, "judge", &input, NEVER)?;
+        assert_ended(
+            &rt,
+            &called,
+            "a long litmus part",
+            status,
+            out.as_bytes(),
+            err,
+        );
+    }
+    for line in ["judge", "order", "witness 1", "verdict", "skew 1"] {
+        let called = call_on(&rt, alloc, line, &mut Blanks, NEVER)?;
+        assert_ended(
+            &rt,
+            &called,
+            line,
+            11,
+            b"",
+            "perple: limit section 16777216\n",
+        );
     }
     Ok(())
 }
 
-/// A fault of reading and one of writing.
+// How many bytes stand on the output where a write fails: the pieces before it, of 16 bytes each. The whole answer has 88.
+const WRITTEN: [(u64, usize); 6] = [(1, 0), (2, 16), (3, 32), (4, 48), (5, 64), (6, 80)];
+
+/// Each call of the source and of both sinks fails in turn. The input has 134 bytes, so its end is found by the tenth read.
 #[test]
-fn faults_are_answered(rt: HostRuntime) -> Result<(), Fail> {
+fn each_call_may_fail(rt: HostRuntime) -> Result<(), Fail> {
     let alloc = rt.alloc();
-    let input = with_section(alloc, SB, "%events 1\n")?;
-    let unread = Failing {
-        reads: &[2],
-        writes: &[],
+    let input = with_section(alloc, SB, "%logs 1\nP0 0\nP1 0\n")?;
+    let whole = call(&rt, alloc, "order", &input, NEVER)?;
+    assert_eq!(rt; whole.out.len(), 88);
+    for read in 1..=10u64 {
+        let failing = Failing {
+            reads: &[read],
+            ..NEVER
+        };
+        let called = call(&rt, alloc, "order", &input, failing)?;
+        assert_ended(&rt, &called, "a read", 3, b"", "perple: reading failed\n");
+    }
+    for (write, written) in WRITTEN {
+        let failing = Failing {
+            writes: &[write],
+            ..NEVER
+        };
+        let called = call(&rt, alloc, "order", &input, failing)?;
+        assert_ended(
+            &rt,
+            &called,
+            "a write",
+            4,
+            &whole.out[..written],
+            "perple: writing failed\n",
+        );
+    }
+    for (write, err) in [(1u64, ""), (2, "perple: section ")] {
+        let failing = Failing {
+            lines: &[write],
+            ..NEVER
+        };
+        let bad = with_section(alloc, SB, "%events 1\nP0 0 0 pull\n")?;
+        let called = call(&rt, alloc, "judge", &bad, failing)?;
+        assert_ended(&rt, &called, "a line", 10, b"", err);
+    }
+    let failing = Failing {
+        reads: &[11],
+        writes: &[7],
+        lines: &[1],
     };
-    let ran = call(&rt, alloc, "judge", &input, unread)?;
-    assert_eq!(rt; ran.err.as_slice(), b"perple: reading failed\n".as_slice());
-    assert!(rt; ran.status.number() == 3 && ran.out.is_empty());
-    let unwritten = Failing {
-        reads: &[],
-        writes: &[2],
-    };
-    let ran = call(&rt, alloc, "judge", &input, unwritten)?;
-    assert_eq!(rt; ran.err.as_slice(), b"perple: writing failed\n".as_slice());
-    assert!(rt; ran.status.number() == 4);
-    assert_eq!(rt; ran.out.as_slice(), b"Wrong 1 kind 6 S".as_slice());
+    let called = call(&rt, alloc, "order", &input, failing)?;
+    assert_ended(&rt, &called, "no call", 0, &whole.out, "");
     Ok(())
 }

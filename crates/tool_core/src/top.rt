@@ -2,7 +2,7 @@
 ghost use Rattle.std.specs.Prelude.{◌≡◌, map, string_bytes};
 ghost use Rattle.program_edge.specs.View.{seen, Wrote};
 ghost use Rattle.tool_core.specs.Status.{tool_line};
-ghost use Rattle.tool_core.specs.Top.{Ended, Completes, IsUsage, RunFits, WritesWhole, WritesPart, ReadsToEnd, KeepsSource, AnswersDue, AnswersTooLong, IsField};
+ghost use Rattle.tool_core.specs.Top.{Ended, Completes, IsUsage, RunFits, WritesWhole, WritesPart, ReadsToEnd, KeepsSource, AnswersDue, AnswersTooLong, IsField, SuitsCommand};
 
 use crate::answer::answer;
 use crate::deliver::deliver;
@@ -51,6 +51,7 @@ pub fn tool<R: Threads + Sync, S: Source, O: Sink, E: Sink, G: Gate>(
     ensures usage { IsUsage (map string_bytes words.now) result.status }
     ensures due { AnswersDue (map string_bytes words.now) (seen S.left S.faults source.old) (seen S.left S.faults source.new) result.status }
     ensures too_long { AnswersTooLong (map string_bytes words.now) (seen S.left S.faults source.old) (seen S.left S.faults source.new) result.status }
+    ensures suits { SuitsCommand (map string_bytes words.now) result.status }
     ensures complete { Completes (map string_bytes words.now) (seen S.left S.faults source.old) (seen S.left S.faults source.new)
         (seen O.written O.faults out.old) (seen O.written O.faults out.new) result.status }
 

@@ -101,12 +101,7 @@ pub fn verdict_on(alloc: Global, test: Test) -> Result<String, ToolStatus>
         ⊎ (option_map ToolStatus.Core (due_for_atoms (profile_of test)) ≡ Some status)) }
     ensures kind { IfErr result HasToolKind }
 {
-    let checked = match check_test(alloc, test) {
-        Ok(checked) => checked,
-        Err(status) => return Err(ToolStatus::Core(status)),
-    };
-    match said(alloc, &checked) {
-        Ok(text) => Ok(text),
-        Err(_) => Err(ToolStatus::Core(Status::Memory)),
-    }
+    let checked = check_test(alloc, test)?;
+    let text = said(alloc, &checked)?;
+    Ok(text)
 }

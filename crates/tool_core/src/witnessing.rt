@@ -19,7 +19,8 @@ use crate::work::Answered;
 use crate::writers::witness_refusal;
 use load_log::Logs;
 use perp_base::NoMemory;
-use perp_loop::{Crew, Gate, run_threads};
+use perp_loop::Gate;
+use program_edge::{Ran, run_test};
 use report_text::Status;
 use run_judge::{RunEvent, event_line};
 use run_witness::{Found, witness};
@@ -105,11 +106,13 @@ pub fn witness_run<R: Threads + Sync, G: Gate>(
     if let Some(status) = witness_refusal(test, &sequences, n) {
         return Answered::still(Err(status), field);
     }
-    let options = options_of(n);
-    let Ok(crew) = Crew::new(alloc, test, &sequences, &options) else {
-        return Answered::still(Err(ToolStatus::Core(Status::Memory)), field);
+    let Ran { done, logs } = run_test(rt, alloc, test, &sequences, &options_of(n), field, gate);
+    let Ok(logs) = logs else {
+        return Answered {
+            text: Err(ToolStatus::Core(Status::Memory)),
+            done,
+        };
     };
-    let (done, logs) = run_threads(rt, field, crew, gate);
     match witness_text(alloc, test, &sequences, n, &logs) {
         Ok(text) => Answered {
             text: Ok(text),

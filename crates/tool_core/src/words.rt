@@ -1,8 +1,9 @@
 //! The words of the second program.
-ghost use Rattle.std.specs.Prelude.{◌≡◌, ◌≤◌, map, string_bytes, IfSome};
-ghost use Rattle.tool_core.specs.Words.{HasIterations, command_of, named_alone, named_with};
+ghost use Rattle.std.specs.Prelude.{◌≡◌, ◌<◌, drop, length, map, string_bytes, IfOk, MatchResult};
+ghost use Rattle.tool_core.specs.Words.{HasIterations, alone, command_of};
 
-use run_text::iterations_in;
+use command_words::{WordsError, read_iterations};
+use std::alloc::Global;
 
 /// A command of the second program.
 #[derive(Clone, Copy, Debug, PartialEq, Eq)]
@@ -19,44 +20,36 @@ pub enum Command {
     Skew(u32),
 }
 
-/// A command that takes no further word.
-fn named_alone(name: &str) -> Option<Command>
-    ensures is { result ≡ named_alone name.now }
-    ensures within { IfSome result HasIterations }
+// The command, where no word follows its name.
+fn alone(words: &[String], command: Command) -> Result<Command, WordsError>
+    requires { 0 < length words.now }
+    ensures same { IfOk result (λ c. c ≡ command) }
+    ensures words { MatchResult result (λ c. alone command (drop 1 (map string_bytes words.now)) ≡ Some c)
+        (λ e. alone command (drop 1 (map string_bytes words.now)) ≡ None) }
 {
-    match name {
-        "judge" => Some(Command::Judge),
-        "order" => Some(Command::Order),
-        "verdict" => Some(Command::Verdict),
-        _ => None,
+    if words.len() == 1 {
+        Ok(command)
+    } else {
+        Err(WordsError::Usage)
     }
 }
 
-/// A command that takes the number of iterations.
-fn named_with(name: &str, iterations: u32) -> Option<Command>
-    requires some { 1 ≤ iterations }
-    requires few { iterations ≤ 100000 }
-    ensures is { result ≡ named_with name.now iterations }
-    ensures within { IfSome result HasIterations }
+/// The command that the words name. `Usage` comes exactly where they name none; that memory is refused may come instead of either
+/// answer.
+pub fn read_words(alloc: Global, words: &[String]) -> Result<Command, WordsError>
+    ensures ok { IfOk result (λ c. command_of (map string_bytes words.now) ≡ Some c) }
+    ensures usage { result ≡ Err WordsError.Usage → command_of (map string_bytes words.now) ≡ None }
+    ensures within { IfOk result HasIterations }
 {
-    match name {
-        "witness" => Some(Command::Witness(iterations)),
-        "skew" => Some(Command::Skew(iterations)),
-        _ => None,
+    if words.is_empty() {
+        return Err(WordsError::Usage);
     }
-}
-
-/// The command that the words name, if any.
-pub fn read_words(words: &[String]) -> Option<Command>
-    ensures is { result ≡ command_of (map string_bytes words.now) }
-    ensures within { IfSome result HasIterations }
-{
-    match words {
-        [name] => named_alone(name.as_str()),
-        [name, count] => {
-            let iterations = iterations_in(count.as_bytes())?;
-            named_with(name.as_str(), iterations)
-        }
-        _ => None,
+    match words[0].as_str() {
+        "judge" => alone(words, Command::Judge),
+        "order" => alone(words, Command::Order),
+        "witness" => Ok(Command::Witness(read_iterations(alloc, words)?)),
+        "verdict" => alone(words, Command::Verdict),
+        "skew" => Ok(Command::Skew(read_iterations(alloc, words)?)),
+        _ => Err(WordsError::Usage),
     }
 }

@@ -1,5 +1,5 @@
 use Rattle.std.proofs.Common.{◌∙◌}
-use Rattle.tool_core.proofs.Endings.{completes_of, due_of, ended_from, ends_of, field_of, fits_of, kept_of, part_of, too_long_of, usage_of, whole_of}
+use Rattle.tool_core.proofs.Endings.{completes_of, due_of, ended_from, ends_of, field_of, fits_of, kept_of, part_of, suits_of, too_long_of, usage_of, whole_of}
 use Rattle.tool_core.proofs.top.tool.Goals as goal
 
 pub returns-clause-ended : goal.returns-clause-ended
@@ -24,6 +24,9 @@ returns-clause-due g c = due_of _ _ _ _ _ _ _ _ (returns-clause-ended g c)
 
 pub returns-clause-too_long : goal.returns-clause-too_long
 returns-clause-too_long g c = too_long_of _ _ _ _ _ _ _ _ (returns-clause-ended g c)
+
+pub returns-clause-suits : goal.returns-clause-suits
+returns-clause-suits g c = suits_of _ _ _ _ _ _ _ _ (returns-clause-ended g c)
 
 pub returns-clause-field : goal.returns-clause-field
 returns-clause-field g c = field_of _ _ _ _ _ _ _ _ (returns-clause-ended g c)

@@ -1,0 +1,52 @@
+//! A test is run by threads on a field.
+ghost use Rattle.std.specs.Prelude.{◌≡◌, IfErr, IfOk};
+ghost use Rattle.seq_conv.specs.Numbers.{AreOf};
+ghost use Rattle.tso_runs.specs.Fits.{IsWithinLimits};
+ghost use Rattle.program_edge.specs.Field.{HasRunOn, IsStill};
+
+use load_log::Logs;
+use perp_base::NoMemory;
+use perp_loop::{Crew, Gate, Options, run_threads};
+use seq_conv::Sequences;
+use std::alloc::Global;
+use std::thread::Threads;
+use tso_words::{Done, Field};
+use x86_subset::Test;
+
+/// The closed field, and the logs of the run; or want of memory before its first step.
+#[derive(Drop)]
+pub struct Ran {
+    pub done: Done,
+    pub logs: Result<Logs, NoMemory>,
+}
+
+/// Runs the threads of a test on the field, as the options say. All memory that they need is taken before their first step.
+pub fn run_test<R: Threads + Sync, G: Gate>(
+    rt: &R,
+    alloc: Global,
+    test: &Test,
+    sequences: &Sequences,
+    options: &Options,
+    field: Field,
+    gate: &G,
+) -> Ran
+    requires sequences { AreOf test.now sequences.now }
+    requires limits { IsWithinLimits options.now }
+    ensures identity { result.done.identity ≡ field }
+    ensures ran { IfOk result.logs (λ logs. HasRunOn test.now options.now result.done logs.logs) }
+    ensures still { IfErr result.logs (λ error. IsStill result.done) }
+{
+    match Crew::new(alloc, test, sequences, options) {
+        Ok(crew) => {
+            let (done, logs) = run_threads(rt, field, crew, gate);
+            Ran {
+                done,
+                logs: Ok(logs),
+            }
+        }
+        Err(refused) => Ran {
+            done: field.close(),
+            logs: Err(refused),
+        },
+    }
+}
