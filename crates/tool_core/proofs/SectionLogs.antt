@@ -1,5 +1,5 @@
 -- The logs of a section are logs of the test.
-use Rattle.std.proofs.Common.{◌≡◌, ℕ, zero, suc, ◌+◌, ◌-◌, ◌*◌, ◌<◌, ◌≤◌, ◌==◌, Bool, true, false, ◌⊎◌, inl, inr, All, List, [], ◌∷◌, ◌++◌, Some, None, Result, Ok, Err, drop, get_or, if◌then◌else◌, length, map, nat_lt, slice_get, option_and_then, codes, decimal, refl, sym, ap, subst, ◌∙◌, arith, eq-eqb}
+use Rattle.std.proofs.Common.{◌≡◌, ℕ, zero, suc, ◌+◌, ◌*◌, ◌<◌, ◌≤◌, ◌==◌, Bool, true, false, ◌⊎◌, inl, inr, List, [], ◌∷◌, ◌++◌, Some, None, Result, Ok, Err, drop, get_or, if◌then◌else◌, length, map, slice_get, option_and_then, codes, decimal, refl, sym, ap, subst, ◌∙◌, arith}
 use Rattle.std.specs.declared.option.Option.{Option}
 use Rattle.std.specs.List.{range_with_len}
 use Rattle.std.specs.Option.{IfSome}
@@ -33,9 +33,11 @@ abbrev IsTold : List ℕ → ℕ → ℕ → Option Values → Type 0
 IsTold columns n t told =
     IfSome told (λ log. (c : ℕ) × (slice_get columns t ≡ Some c) × (log.columns ≡ c) × (length log.values ≡ n * log.columns))
 
-told_count : (columns : List ℕ) (n t c : ℕ) (vs : List ℕ) (whole : Bool) → (length vs == c * n) ≡ whole → slice_get columns t ≡ Some c
+told_count : (columns : List ℕ) (n t c : ℕ) (vs : List ℕ) (whole : Bool) → (length vs == c * n) ≡ whole
+    → slice_get columns t ≡ Some c
     → IsTold columns n t (if whole then Some (record { columns = c; values = vs; spare = 0 }) else None)
-told_count columns n t c vs true is e = (c, e, refl, let same : length vs ≡ c * n = eqb-true (length vs) (c * n) is in omega arith)
+told_count columns n t c vs true is e =
+    (c, e, refl, let same : length vs ≡ c * n = eqb-true (length vs) (c * n) is in omega arith)
 told_count columns n t c vs false is e = tt
 
 told_numbers : (columns : List ℕ) (n t c : ℕ) (vs : Option (List ℕ)) → slice_get columns t ≡ Some c
@@ -59,7 +61,8 @@ told columns n t (w ∷ ws) = told_named columns n t ws (bytes_eq w (codes "P" +
 
 -- ---- all lines
 
-drop_at : (columns : List ℕ) (t c : ℕ) → slice_get columns t ≡ Some c → (t < length columns) × (drop t columns ≡ c ∷ drop (t + 1) columns)
+drop_at : (columns : List ℕ) (t c : ℕ) → slice_get columns t ≡ Some c
+    → (t < length columns) × (drop t columns ≡ c ∷ drop (t + 1) columns)
 drop_at [] t c e = absurd (cc)
 drop_at (x ∷ xs) zero c e = let same : x ≡ c = cc in (omega arith, ap (λ k. k ∷ xs) same)
 drop_at (x ∷ xs) (suc t) c e =
@@ -81,15 +84,16 @@ fit_more : (columns : List ℕ) (n t : ℕ) (log : Values) (more logs : List Val
 fit_more columns n t log more logs is fit e =
     subst (Fit n (drop t columns)) e (rw (drop_at columns t is.0 is.1).1 (is.2, is.3, fit))
 
-fit_later : (columns : List ℕ) (n t : ℕ) (log : Values) (logs : List Values) (later : Result (List Values) ℕ) → IsTold columns n t (Some log)
+fit_later : (columns : List ℕ) (n t : ℕ) (log : Values) (logs : List Values) (later : Result (List Values) ℕ)
+    → IsTold columns n t (Some log)
     → ((more : List Values) → later ≡ Ok more → Fit n (drop (t + 1) columns) more)
     → onto_all (log ∷ []) later ≡ Ok logs → Fit n (drop t columns) logs
 fit_later columns n t log logs (Ok more) is fit e = fit_more columns n t log more logs is (fit more refl) (cc)
 fit_later columns n t log logs (Err bad) is fit e = absurd (cc)
 
 -- by what the first line says, where this holds of the others
-fit_line : (columns : List ℕ) (n line t : ℕ) (l : List ℕ) (ls : List (List ℕ)) (logs : List Values) (some : Bool) (log : Option Values)
-    → has_words l ≡ some → log_for columns n t (words l) ≡ log
+fit_line : (columns : List ℕ) (n line t : ℕ) (l : List ℕ) (ls : List (List ℕ)) (logs : List Values) (some : Bool)
+    (log : Option Values) → has_words l ≡ some → log_for columns n t (words l) ≡ log
     → ((from : ℕ) (more : List Values) → logs_from columns n (line + 1) from ls ≡ Ok more → Fit n (drop from columns) more)
     → logs_from columns n line t (l ∷ ls) ≡ Ok logs → Fit n (drop t columns) logs
 fit_line columns n line t l ls logs false log w h rest e = rest t logs (sym (blank_first columns n line t l ls w) ∙ e)
