@@ -1,5 +1,5 @@
 -- What a call of `perple` writes for a text whose test is forbidden.
-use Rattle.std.proofs.Common.{◌≡◌, ◌⊎◌, ℕ, ◌<◌, List, ◌++◌, Some, length, take, inl, inr, sym, ap, subst, ◌∙◌}
+use Rattle.std.proofs.Common.{◌≡◌, ℕ, ◌<◌, List, ◌++◌, Some, length, take, inl, inr, sym, subst, ◌∙◌}
 use Rattle.x86_subset.specs.Test.{LitmusTest}
 use Rattle.profile_check.specs.Kinds.{AreKinds}
 use Rattle.profile_check.specs.Profile.{IsChecked}
@@ -8,7 +8,6 @@ use Rattle.litmus_reader.specs.Reading.{Reads}
 use Rattle.litmus_reader.proofs.ReadingLaws.{one_reading}
 use Rattle.tso_words.specs.Seats.{Ended as Closed}
 use Rattle.command_words.specs.Job.{Asked as Job}
-use Rattle.command_words.specs.Words.{command_of}
 use Rattle.command_words.specs.declared.job.Command.{Command}
 use Rattle.command_words.specs.declared.job.Command.TheVariants.{Run, Replay}
 use Rattle.program_edge.specs.View.{View}
@@ -29,11 +28,13 @@ same_test text a b p q =
     cc
 
 -- the right answer is the report that nothing was seen
-run_is : (job : Job) (test : LitmusTest) (done : Closed) (answer : List ℕ) → IsChecked (read_test test) → IsForbidden (read_test test)
+run_is : (job : Job) (test : LitmusTest) (done : Closed) (answer : List ℕ)
+    → IsChecked (read_test test) → IsForbidden (read_test test)
     → IsText (Run job) test done answer → answer ≡ zero_text test job
 run_is job test done answer is forbidden right = runs_give_no_other_text (read_test test) job done answer is forbidden right
 
-replay_is : (job : Job) (test : LitmusTest) (done : Closed) (answer : List ℕ) → IsChecked (read_test test) → IsForbidden (read_test test)
+replay_is : (job : Job) (test : LitmusTest) (done : Closed) (answer : List ℕ)
+    → IsChecked (read_test test) → IsForbidden (read_test test)
     → IsText (Replay job) test done answer → answer ≡ zero_text test job
 replay_is job test done answer is forbidden right =
     replays_give_no_other_text (read_test test) job (schedule_of job) answer is forbidden right.1
@@ -49,9 +50,15 @@ answer_is command job text test done IsOn each reading a =
     let right : IsText command test done a.answer = subst (λ (t : LitmusTest). IsText command t done a.answer) same a.right in
     subst IsOn (each a.answer (record { kinds = kinds; test = reads_tests text test reading }) right) a.is_on
 
+-- a proper part of a text stands on `out` behind what was there
+abbrev IsPartOn : List ℕ → View → List ℕ → Type 0
+IsPartOn before out text = (n : ℕ) × (n < length text) × (out.bytes ≡ Some (before ++ take n text))
+
 -- what a call has on `out`, where its whole answer is to stand there and where a part of it is
-whole_is : (words : List (List ℕ)) (old : View) (done : Closed) (out_old out_new : View) (status : Status) (job : Job) (before : List ℕ) (test : LitmusTest)
-    → WritesWhole words old done out_old out_new status → IsCall words old out_old job before test → IsForbidden (read_test test)
+whole_is : (words : List (List ℕ)) (old : View) (done : Closed) (out_old out_new : View) (status : Status)
+    (job : Job) (before : List ℕ) (test : LitmusTest)
+    → WritesWhole words old done out_old out_new status
+    → IsCall words old out_old job before test → IsForbidden (read_test test)
     → AsksFor words job → status ≡ Whole → out_new.bytes ≡ Some (before ++ zero_text test job)
 whole_is words old done out_old out_new status job before test writes call forbidden (inl asks) whole =
     answer_is (Run job) job call.text test done (λ answer. out_new.bytes ≡ Some (before ++ answer))
@@ -62,16 +69,17 @@ whole_is words old done out_old out_new status job before test writes call forbi
     (λ answer is right. replay_is job test done answer is forbidden right) call.reading
     (writes (Replay job) call.text before asks call.told call.told_out whole)
 
-part_is : (words : List (List ℕ)) (old : View) (done : Closed) (out_old out_new : View) (status : Status) (job : Job) (before : List ℕ) (test : LitmusTest)
-    → WritesPart words old done out_old out_new status → IsCall words old out_old job before test → IsForbidden (read_test test)
-    → AsksFor words job → status ≡ WriteFault
-    → (n : ℕ) × (n < length (zero_text test job)) × (out_new.bytes ≡ Some (before ++ take n (zero_text test job)))
+part_is : (words : List (List ℕ)) (old : View) (done : Closed) (out_old out_new : View) (status : Status)
+    (job : Job) (before : List ℕ) (test : LitmusTest)
+    → WritesPart words old done out_old out_new status
+    → IsCall words old out_old job before test → IsForbidden (read_test test)
+    → AsksFor words job → status ≡ WriteFault → IsPartOn before out_new (zero_text test job)
 part_is words old done out_old out_new status job before test writes call forbidden (inl asks) fault =
-    answer_is (Run job) job call.text test done (λ answer. (n : ℕ) × (n < length answer) × (out_new.bytes ≡ Some (before ++ take n answer)))
+    answer_is (Run job) job call.text test done (IsPartOn before out_new)
     (λ answer is right. run_is job test done answer is forbidden right) call.reading
     (writes (Run job) call.text before asks call.told call.told_out fault)
 part_is words old done out_old out_new status job before test writes call forbidden (inr asks) fault =
-    answer_is (Replay job) job call.text test done (λ answer. (n : ℕ) × (n < length answer) × (out_new.bytes ≡ Some (before ++ take n answer)))
+    answer_is (Replay job) job call.text test done (IsPartOn before out_new)
     (λ answer is right. replay_is job test done answer is forbidden right) call.reading
     (writes (Replay job) call.text before asks call.told call.told_out fault)
 

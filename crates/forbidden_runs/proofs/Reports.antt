@@ -1,5 +1,5 @@
 -- The reports of a test whose conjunctions all have cycles.
-use Rattle.std.proofs.Common.{◌≡◌, ℕ, zero, suc, ◌*◌, ◌^◌, ◌<◌, ◌≤◌, ◌++◌, true, List, [], ◌∷◌, All, Contains, Global, Vec, length, filter, map, codes, decimal, refl, sym, ap, ap₂, append-nil, append_assoc, subst, ◌∙◌, arith}
+use Rattle.std.proofs.Common.{◌≡◌, ℕ, zero, suc, ◌*◌, ◌^◌, ◌≤◌, ◌++◌, true, List, [], ◌∷◌, All, Contains, Global, Vec, length, filter, map, codes, decimal, refl, sym, ap, ap₂, append-nil, append_assoc, subst, ◌∙◌, arith}
 use native.Mathlib.Nat.{pow-suc}
 use Rattle.std.proofs.lemmas.Fmt.{decimal_digit}
 use Rattle.std.specs.List.{range_with_len}
@@ -20,14 +20,14 @@ use Rattle.command_words.specs.Job.{Asked as Job}
 use Rattle.command_words.specs.declared.job.Count.{Count}
 use Rattle.command_words.specs.declared.job.Count.TheVariants.{Exhaustive, Heuristic, Both}
 use Rattle.report_text.specs.Report.{ReportRows, asked_line, count_lines, head_lines, heuristic_lines, hit_lines, report_of, seen_line}
-use Rattle.report_text.specs.Words.{newline, number_line}
-use Rattle.perple_core.specs.Texts.{asked, asks_exhaustive, asks_heuristic, frame_count_of, hit_count_of, is_negated, kinds_of, listed_hits_of, report_rows, text_of}
+use Rattle.report_text.specs.Words.{number_line}
+use Rattle.perple_core.specs.Texts.{asked, asks_exhaustive, asks_heuristic, frame_count_of, hit_count_of, is_negated, listed_hits_of, report_rows, text_of}
 use Rattle.perple_core.proofs.Accepting.{kinds_are}
 use Rattle.verdict.specs.Verdicts.{AreCycles}
 use Rattle.verdict.specs.declared.node.Node.{Node}
 use Rattle.verdict.proofs.Forward.{forbidden_has_no_hits_lem}
 use Rattle.forbidden_runs.specs.Laws.{ForbiddenReplaysGiveNoOtherText, ForbiddenRunsGiveNoOtherText, ForbiddenRunsReportNothing, ForbiddenVerdictsForbid}
-use Rattle.forbidden_runs.specs.Texts.{IsForbidden, head_text, zero_lines, zero_text}
+use Rattle.forbidden_runs.specs.Texts.{IsForbidden, head_text, zero_lines}
 
 -- ---- no hits
 
@@ -39,7 +39,8 @@ zero_power (suc t) some = let e : 0 ^ suc t ≡ 0 ^ t * 0 = pow-suc 0 t in omega
 no_frames : (t : ℕ) → 1 ≤ t → frames_of 0 t ≡ []
 no_frames t some = ap (λ count. map (frame_of 0 t) (range_with_len 0 count)) (zero_power t some)
 
-no_hits : (checked : CheckedTest) (n : ℕ) (run : List Event) → IsChecked checked → IsForbidden checked → IsRunOf checked.test n run
+no_hits : (checked : CheckedTest) (n : ℕ) (run : List Event)
+    → IsChecked checked → IsForbidden checked → IsRunOf checked.test n run
     → hits_of checked.test checked.kinds n run ≡ []
 no_hits checked zero run is forbidden runs =
     ap (filter (is_hit checked.test checked.kinds run)) (no_frames (length checked.test.bodies) is.test.some_threads)
@@ -48,13 +49,18 @@ no_hits checked (suc n) run is forbidden runs =
 
 none_among : (listed : List (List ℕ)) → All (Contains []) listed → listed ≡ []
 none_among [] all = refl
-none_among (hit ∷ hits) all = let c : Contains [] hit = all 0 hit (omega arith) in let few = c.1 in absurd (omega arith)
+none_among (hit ∷ hits) all =
+    let c : Contains [] hit = all 0 hit (omega arith) in
+    let few = c.1 in
+    absurd (omega arith)
 
-none_listed : (checked : CheckedTest) (n : ℕ) (run : List Event) → IsChecked checked → IsForbidden checked → IsRunOf checked.test n run
+none_listed : (checked : CheckedTest) (n : ℕ) (run : List Event)
+    → IsChecked checked → IsForbidden checked → IsRunOf checked.test n run
     → picked_hits checked.test n run checked.kinds ≡ []
 none_listed checked n run is forbidden runs =
     none_among (picked_hits checked.test n run checked.kinds)
-    (subst (λ (hits : List (List ℕ)). All (Contains hits) (picked_hits checked.test n run checked.kinds)) (no_hits checked n run is forbidden runs)
+    (subst (λ (hits : List (List ℕ)). All (Contains hits) (picked_hits checked.test n run checked.kinds))
+    (no_hits checked n run is forbidden runs)
     (listed_are_hits_lem checked.test n run checked.kinds is.test.holds_reads runs is.kinds))
 
 -- a verdict on the kinds that a check found is one on those that a text has
@@ -62,7 +68,8 @@ pub verdicts_forbid : ForbiddenVerdictsForbid
 verdicts_forbid checked cycles is verdict =
     let nodes : List (List Node) = map (λ (cycle : Vec Node Global). cycle.items) cycles.items in (
       nodes,
-      subst (λ (kinds : List AtomKind). AreCycles (record { test = checked.test; kinds = kinds }) nodes) (sym (kinds_are checked.test checked.kinds is.kinds)) verdict,
+      subst (λ (kinds : List AtomKind). AreCycles (record { test = checked.test; kinds = kinds }) nodes)
+          (sym (kinds_are checked.test checked.kinds is.kinds)) verdict,
     )
 
 -- ---- the report of so many hits, and of these listed ones
@@ -80,20 +87,25 @@ rows_of_counts test options count hits listed = record {
   show_hits = true;
 }
 
+abbrev report_by : LitmusTest → Job → List Event → List AtomKind → List ℕ
+report_by test job run kinds =
+    let n = job.options.iterations in
+    report_of (rows_of_counts test job.options job.count (length (hits_of test kinds n run)) (picked_hits test n run kinds))
+
 text_is : (checked : CheckedTest) (job : Job) (run : List Event) → IsChecked checked
-    → text_of checked.test job run
-    ≡ report_of (rows_of_counts checked.test job.options job.count (length (hits_of checked.test checked.kinds job.options.iterations run)) (picked_hits checked.test job.options.iterations run checked.kinds))
+    → text_of checked.test job run ≡ report_by checked.test job run checked.kinds
 unfolding text_of report_rows hit_count_of listed_hits_of
-text_is checked job run is =
-    ap (λ kinds. report_of (rows_of_counts checked.test job.options job.count (length (hits_of checked.test kinds job.options.iterations run)) (picked_hits checked.test job.options.iterations run kinds)))
-    (kinds_are checked.test checked.kinds is.kinds)
+text_is checked job run is = ap (report_by checked.test job run) (kinds_are checked.test checked.kinds is.kinds)
 
 word_zero : (word : List ℕ) → number_line word 0 ≡ word ++ codes " 0\n"
 unfolding number_line
-word_zero word = let e : decimal 0 ≡ 48 ∷ [] = decimal_digit 0 (omega arith) in rw e (simp append_assoc)
+word_zero word =
+    let e : decimal 0 ≡ 48 ∷ [] = decimal_digit 0 (omega arith) in
+    rw e (simp append_assoc)
 
 zero_report : (test : LitmusTest) (options : Options) (count : Count)
-    → report_of (rows_of_counts test options count 0 []) ≡ head_text test options.iterations ++ zero_lines count (frame_count_of test options) ++ codes "Seen no\n"
+    → report_of (rows_of_counts test options count 0 [])
+    ≡ head_text test options.iterations ++ zero_lines count (frame_count_of test options) ++ codes "Seen no\n"
 unfolding report_of head_lines count_lines asked_line heuristic_lines hit_lines seen_line
 zero_report test options Exhaustive = rw (word_zero (codes "Exhaustive"), append-nil) refl
 zero_report test options Heuristic = rw (word_zero (codes "Heuristic")) refl
@@ -113,11 +125,13 @@ pub runs_give_no_other_text : ForbiddenRunsGiveNoOtherText
 runs_give_no_other_text checked job done text is forbidden right =
     let fits : Fits checked.test job.options done.lists right.some_run.run = right.some_run.fits in
     right.each right.some_run.run fits
-    ∙ runs_report_nothing checked job right.some_run.run is forbidden (fitting_run checked.test job.options done.lists right.some_run.run fits)
+    ∙ runs_report_nothing checked job right.some_run.run is forbidden
+    (fitting_run checked.test job.options done.lists right.some_run.run fits)
 
 pub replays_give_no_other_text : ForbiddenReplaysGiveNoOtherText
 replays_give_no_other_text checked job schedule text is forbidden right =
     let run = right.some_run.0 in
     let scheduled : IsScheduled checked.test job.options schedule run = right.some_run.1 in
     right.each run scheduled
-    ∙ runs_report_nothing checked job run is forbidden (scheduled_run checked.test job.options schedule run scheduled)
+    ∙ runs_report_nothing checked job run is forbidden
+    (scheduled_run checked.test job.options schedule run scheduled)

@@ -1,6 +1,6 @@
--- Laws: of a test whose conjunctions all have cycles `run` and `replay` report that nothing was seen. The runs are those of x86-TSO
--- (Sewell, Sarkar, Owens, Zappa Nardelli and Myreen, CACM 2010); that cycles forbid an outcome is after Alglave, Maranget and
--- Tautschnig ("Herding cats", TOPLAS 2014).
+-- Laws: of a test whose conjunctions all have cycles `run` and `replay` report that nothing was seen. The runs are those of
+-- x86-TSO (Sewell, Sarkar, Owens, Zappa Nardelli and Myreen, CACM 2010); that cycles forbid an outcome is after Alglave,
+-- Maranget and Tautschnig ("Herding cats", TOPLAS 2014).
 use Rattle.std.specs.Prelude.{◌≡◌, ◌⊎◌, ℕ, ◌<◌, List, ◌++◌, Some, Vec, length, take}
 use Rattle.std.specs.Global.{Global}
 use Rattle.x86_subset.specs.Test.{LitmusTest}
@@ -67,16 +67,17 @@ ForbiddenVerdictsForbid =
     → IsVerdict checked (Forbidden cycles)
     → IsForbidden (read_test checked.test)
 
--- `perple` was called with these words, this text in the source and these bytes on `out`, and the text is that of this test
-pub record IsCall (words : List (List ℕ)) (old out_old : View) (job : Job) (before : List ℕ) (test : LitmusTest) : Type 0 where
+-- the words of a call of `perple` ask for this job, `out` has these bytes before it, and the source the text of this test
+pub record IsCall (words : List (List ℕ)) (old out_old : View) (job : Job) (before : List ℕ) (test : LitmusTest)
+    : Type 0 where
   pub asks : AsksFor words job
   pub text : List ℕ
   pub told : old.bytes ≡ Some text
   pub told_out : out_old.bytes ≡ Some before
   pub reading : Reads text (Accepted test)
 
--- law: where the clauses `whole` and `part` of `perple` hold of a call with the text of a forbidden test, the call has written that
--- report, or with a fault of writing a part of it
+-- law: where the clauses `whole` and `part` of `perple` hold of a call with the text of a forbidden test, the call has
+-- written that report, or with a fault of writing a part of it
 abbrev pub PerpleReportsNothingForbidden : Type 0
 PerpleReportsNothingForbidden =
     (words : List (List ℕ)) (old : View) (done : Closed) (out_old out_new : View) (status : Status)
@@ -86,4 +87,5 @@ PerpleReportsNothingForbidden =
     → IsCall words old out_old job before test
     → IsForbidden (read_test test)
     → (status ≡ Whole → out_new.bytes ≡ Some (before ++ zero_text test job))
-    × (status ≡ WriteFault → (n : ℕ) × (n < length (zero_text test job)) × (out_new.bytes ≡ Some (before ++ take n (zero_text test job))))
+    × (status ≡ WriteFault → (n : ℕ) × (n < length (zero_text test job))
+    × (out_new.bytes ≡ Some (before ++ take n (zero_text test job))))

@@ -1,5 +1,5 @@
--- The report that nothing was seen, line by line, and the tests that always get it. The counts are PerpLE's (Melissaris, Markakis,
--- Shaw and Martonosi, MICRO 2020); the texts are this project's own.
+-- The report that nothing was seen, line by line, and the tests that always get it. The counts are PerpLE's (Melissaris,
+-- Markakis, Shaw and Martonosi, MICRO 2020); the texts are this project's own.
 use Rattle.std.specs.Prelude.{ℕ, List, ◌++◌, length, codes}
 use Rattle.x86_subset.specs.Test.{LitmusTest}
 use Rattle.profile_check.specs.Profile.{CheckedTest}
@@ -15,7 +15,9 @@ use Rattle.verdict.specs.declared.node.Node.{Node}
 -- the lines that say what was run
 abbrev pub head_text : LitmusTest → ℕ → List ℕ
 head_text test iterations =
-    test_line test.name ++ number_line (codes "Threads") (length test.bodies) ++ number_line (codes "Iterations") iterations
+    test_line test.name
+    ++ number_line (codes "Threads") (length test.bodies)
+    ++ number_line (codes "Iterations") iterations
     ++ condition_line (is_negated test.quantifier) (length test.atoms)
 
 -- the lines of the counts that were asked for, where each is 0; no hit is listed
@@ -27,7 +29,9 @@ zero_lines Both frames = number_line (codes "Frames") frames ++ codes "Exhaustiv
 -- the report that nothing was seen
 abbrev pub zero_text : LitmusTest → Job → List ℕ
 zero_text test job =
-    head_text test job.options.iterations ++ zero_lines job.count (frame_count_of test job.options) ++ codes "Seen no\n"
+    head_text test job.options.iterations
+    ++ zero_lines job.count (frame_count_of test job.options)
+    ++ codes "Seen no\n"
 
 -- each conjunction of the checked test has a cycle of edges, as `verdict` finds them
 abbrev pub IsForbidden : CheckedTest → Type 0
