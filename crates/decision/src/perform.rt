@@ -1,0 +1,78 @@
+//! One event more.
+ghost use Rattle.std.specs.Prelude.{◌≡◌, ◌<◌, ◌^◌, OnOk, length};
+ghost use Rattle.seq_conv.specs.Numbers.{AreOf};
+ghost use Rattle.seq_conv.specs.Source.{is_memory_kind};
+ghost use Rattle.run_judge.specs.Judgement.{event_of, kind_of_run};
+ghost use Rattle.decision.specs.Course.{IsCourse, IsNextIn, mark_after, mark_of, marks_of, total};
+
+use crate::course::{Course, Progress, progress_of};
+use crate::next::location;
+use perp_base::NoMemory;
+use profile_check::Checked;
+use run_judge::{RunEvent, RunKind};
+use seq_conv::Sequences;
+use verdict::Node;
+
+/// How far a thread has come behind an event.
+fn progress_after(own: Progress, kind: RunKind, place: u32) -> Progress
+    requires done { own.done < 2 ^ 31 }
+    requires place { place < 2 ^ 31 }
+    ensures { mark_of result ≡ mark_after (kind_of_run kind) place (mark_of own) }
+{
+    match kind {
+        RunKind::Push | RunKind::Read { .. } | RunKind::Fence => Progress {
+            done: own.done + 1,
+            drained: own.drained,
+        },
+        RunKind::Drain => Progress {
+            done: own.done,
+            drained: place + 1,
+        },
+        RunKind::Exchange { .. } => Progress {
+            done: own.done + 1,
+            drained: own.done + 1,
+        },
+    }
+}
+
+/// Whether an event of this kind changes memory.
+fn is_write(kind: RunKind) -> bool
+    ensures { result ≡ is_memory_kind (kind_of_run kind) }
+{
+    match kind {
+        RunKind::Drain | RunKind::Exchange { .. } => true,
+        _ => false,
+    }
+}
+
+/// Executes an event that can be next.
+pub fn perform(
+    checked: &Checked,
+    sequences: &Sequences,
+    conjunction: u32,
+    course: &mut Course,
+    event: RunEvent,
+) -> Result<(), NoMemory>
+    requires same { AreOf checked.now.test sequences.now }
+    requires course { IsCourse checked.now conjunction course.old }
+    requires next { IsNextIn checked.now conjunction course.old (event_of event) }
+    ensures course { OnOk result (IsCourse checked.now conjunction course.new) }
+    ensures less { OnOk result (total checked.now.test (marks_of course.new.threads.items) (length checked.now.test.bodies) < total checked.now.test (marks_of course.old.threads.items) (length checked.now.test.bodies)) }
+{
+    let test = checked.test();
+    let (t, place) = (event.thread as usize, event.place as usize);
+    let own = progress_after(progress_of(course, event.thread), event.kind, event.place);
+    course.events.push(event)?;
+    course.threads[t] = own;
+    if is_write(event.kind) {
+        let loc = location(
+            test,
+            Node {
+                thread: event.thread,
+                place: event.place,
+            },
+        );
+        course.memory[loc as usize] = sequences.value(t, place, event.iteration);
+    }
+    Ok(())
+}
