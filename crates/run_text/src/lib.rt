@@ -30,4 +30,4 @@ pub use error::SectionError;
 pub use event_lines::events;
 pub use laws::{events_are_read_back, runs_are_read_back, sections_part_inputs};
 pub use logs::read_logs;
-pub use section::{Section, find_section, iterations_in};
+pub use section::{Section, find_section};

@@ -21,7 +21,7 @@ pub struct Section<'a> {
 }
 
 /// The number of iterations that a word tells: 1 to 100,000.
-pub fn iterations_in(word: &[u8]) -> Option<u32>
+fn iterations_in(word: &[u8]) -> Option<u32>
     ensures is { result ≡ within_iterations (large_number word.now) }
     ensures within { IfSome result (λ n. (1 ≤ n) × (n ≤ 100000)) }
 {
