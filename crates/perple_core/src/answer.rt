@@ -1,5 +1,6 @@
 //! The answer to the words and the input, before anything is written: a text or a refusal, and the closed field.
-ghost use Rattle.std.specs.Prelude.{◌≡◌, ◌⊎◌, map, IfOk, IfErr, OnErr, string_bytes};
+ghost use Rattle.std.specs.Prelude.{◌≡◌, ◌⊎◌, map, IfOk, IfErr, OnErr, string_bytes, None};
+ghost use Rattle.command_words.specs.Words.{command_of};
 ghost use Rattle.litmus_reader.specs.Answer.{Accepted};
 ghost use Rattle.report_text.specs.Status.{HasKind};
 ghost use Rattle.program_edge.specs.View.{seen};
@@ -38,6 +39,7 @@ pub fn answer<R: Threads + Sync, S: Source, G: Gate>(
     ensures done { IfErr result.text (IsStillOrRan (map string_bytes words.now) (seen S.left S.faults source.old) (seen S.left S.faults source.new) result.done) }
     ensures kind { IfErr result.text HasKind }
     ensures demo { IsDemo (map string_bytes words.now) → source.new ≡ source.old }
+    ensures misused { command_of (map string_bytes words.now) ≡ None → source.new ≡ source.old }
 {
     match ask(alloc, words, source) {
         Err(status) => Answered {

@@ -1,5 +1,6 @@
 //! All that comes before a run: the words, the input, the reading of the text and its checks.
 ghost use Rattle.std.specs.Prelude.{◌≡◌, ◌≤◌, ◌⊎◌, ◌&&◌, ◌^◌, length, map, nat_lt, None, Some, IsSome, IfOk, IfErr, string_bytes};
+ghost use Rattle.command_words.specs.Words.{command_of};
 ghost use Rattle.demo_text.specs.Demo.{demo_text_of};
 ghost use Rattle.litmus_reader.specs.Answer.{Accepted};
 ghost use Rattle.litmus_reader.specs.Reading.{Reads};
@@ -117,6 +118,7 @@ pub fn ask<S: Source>(alloc: Global, words: &[String], source: &mut S) -> Result
     ensures kind { IfErr result HasKind }
     ensures ascii { IfOk result (λ asked. IsNamedInAscii asked.checked.test) }
     ensures demo { IsDemo (map string_bytes words.now) → source.new ≡ source.old }
+    ensures misused { command_of (map string_bytes words.now) ≡ None → source.new ≡ source.old }
 {
     let command = match read_words(alloc, words) {
         Ok(command) => command,

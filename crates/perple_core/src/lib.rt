@@ -13,7 +13,8 @@ mod report_run;
 mod top;
 mod work;
 
-pub use command_words::{Command, Count, Job};
+pub use command_words::{Command, Count, Job, WordsError, read_words};
+pub use demo_text::demo_text;
 pub use perp_loop::{Gate, NoGate, Options};
 pub use report_text::Status;
 pub use top::{Outcome, perple};

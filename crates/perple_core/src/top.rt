@@ -1,5 +1,6 @@
 //! The top call.
-ghost use Rattle.std.specs.Prelude.{◌≡◌, map, string_bytes};
+ghost use Rattle.std.specs.Prelude.{◌≡◌, map, string_bytes, None};
+ghost use Rattle.command_words.specs.Words.{command_of};
 ghost use Rattle.report_text.specs.Status.{line_of};
 ghost use Rattle.program_edge.specs.View.{seen, Wrote};
 ghost use Rattle.perple_core.specs.Top.{IsDemo, Ended, Completes, DemoCompletes, IsUsage, RunReads, RunFits, RunText, WritesWhole, WritesPart, ReadsToEnd, AnswersDue, AnswersTooLong, IsField};
@@ -55,6 +56,7 @@ pub fn perple<R: Threads + Sync, S: Source, O: Sink, E: Sink, G: Gate>(
     // What every command leaves: the source, the field, `out` and `err`.
     ensures read { ReadsToEnd (map string_bytes words.now) (seen S.left S.faults source.new) result.status }
     ensures demo { IsDemo (map string_bytes words.now) → source.new ≡ source.old }
+    ensures misused { command_of (map string_bytes words.now) ≡ None → source.new ≡ source.old }
     ensures field { IsField (map string_bytes words.now) result.done result.status }
     ensures whole { WritesWhole (map string_bytes words.now) (seen S.left S.faults source.old) result.done
         (seen O.written O.faults out.old) (seen O.written O.faults out.new) result.status }
