@@ -9,5 +9,6 @@ pub mod Masks
 pub mod PairsOfLogs
 pub mod Partition
 pub mod Reaches
+pub mod Remembered
 pub mod Stretches
 pub mod Thresholds

@@ -3,10 +3,10 @@ ghost use Rattle.std.specs.Prelude.{◌≡◌, ℕ, ◌+◌, ◌-◌, ◌*◌, �
 ghost use Rattle.std.specs.List.{range_with_len};
 ghost use Rattle.load_log.specs.Values.{AreWhole, value_at};
 ghost use Rattle.outcome_conv.specs.Conds.{count_of};
-ghost use Rattle.frame_count.specs.Count.{CanCount, IsOfLogs, number_holds, piece_count, range_count};
+ghost use Rattle.frame_count.specs.Count.{CanCount, IsOfLogs, number_holds, piece_by_turns, piece_count};
 
+use crate::counted::Counted;
 use crate::numbers::{MOST_FRAMES, frame_of, power};
-use crate::row::row_count;
 use load_log::Logs;
 use outcome_conv::Conds;
 use rayon::prelude::*;
@@ -24,36 +24,35 @@ fn piece(conds: &Conds, logs: &Logs, n: u32, from: u64, to: u64) -> u64
 {
     let threads = logs.len();
     let mut total = 0u64;
+    let mut counted = Counted::nothing();
     let mut at = from;
     while at < to {
-        let first = (at % n as u64) as u32;
+        let first = (at % n as u64) as usize;
         let row = u64::min(n as u64 - first as u64, to - at);
         let frame = frame_of(at, n, threads);
-        total += row_count(conds, logs, &frame, first, first + row as u32);
+        counted = counted.next(conds, logs, &frame, first, first + row as usize);
+        total += counted.hits;
         at += row;
     }
     total
 }
 
-/// At how many frames of range `j` of so many ranges the conditions hold.
-fn range_at(conds: &Conds, logs: &Logs, n: u32, all: u64, ranges: u64, j: u64) -> u64
-    requires { (cut : ℕ) × CanCount conds.now logs.now.logs n all cut × (ranges ≡ 2 * cut) × (j < ranges) }
-    ensures count { result ≡ range_count conds.now logs.now.logs n all ranges j }
-    ensures few { result ≤ all }
-{
-    piece(conds, logs, n, j * all / ranges, (j + 1) * all / ranges)
-}
-
-/// At how many frames of piece `j` of the cut the conditions hold. Ranges near the front may take longer than those near the back, or the other
-/// way round; so each piece has one of either.
+/// At how many frames of piece `j` of the cut the conditions hold.
 fn piece_at(conds: &Conds, logs: &Logs, n: u32, all: u64, cut: u64, j: u64) -> u64
     requires { CanCount conds.now logs.now.logs n all cut × (j < cut) }
     ensures { result ≡ piece_count conds.now logs.now.logs n all cut j }
 {
-    let ranges = 2 * cut;
-    let front = range_at(conds, logs, n, all, ranges, j);
-    let back = range_at(conds, logs, n, all, ranges, ranges - 1 - j);
-    front + back
+    piece(conds, logs, n, j * all / cut, (j + 1) * all / cut)
+}
+
+/// The piece that is handed out as number `j`. Pieces near the front may take longer than those near the back, or the other way round, and
+/// each processor gets neighbours in this order; so they come from the front and from the back by turns.
+fn by_turns(cut: u64, j: u64) -> u64
+    requires { j < cut }
+    ensures piece { result ≡ piece_by_turns cut j }
+    ensures there { result < cut }
+{
+    if j % 2 == 0 { j / 2 } else { cut - 1 - j / 2 }
 }
 
 /// At how many frames of `n` iterations of `t` threads the conditions of some conjunction hold. The frame numbers are cut into so many
@@ -81,8 +80,8 @@ pub fn count<R: Threads + Sync>(
         .map(
             |j: u64| -> u64
                 requires { CanCount conds.now logs.now.logs n all cut × (j < cut) }
-                ensures { result ≡ piece_count conds.entry.now logs.entry.now.logs n all cut j }
-            { piece_at(conds, logs, n, all, cut, j) },
+                ensures { result ≡ piece_count conds.entry.now logs.entry.now.logs n all cut (piece_by_turns cut j) }
+            { piece_at(conds, logs, n, all, cut, by_turns(cut, j)) },
         )
         .with_min_len(1)
         .sum::<u64>(rt)

@@ -8,8 +8,8 @@ use Rattle.frame_count.proofs.Cuts.{frame_below, row_frame}
 use Rattle.frame_count.proofs.Digits.{length-frame_of}
 use Rattle.frame_count.proofs.pieces.piece.Goals as goal
 
-pub row_count-total-requires : goal.row_count-total-requires
-row_count-total-requires c =
+pub next-counted-requires : goal.next-counted-requires
+next-counted-requires c =
     let n = c.args.n in
     let logs = c.args.logs.now.logs in
     let at = c.loop-at.at in
@@ -30,7 +30,18 @@ row_count-total-requires c =
         },
       );
       names = c.requires.names;
+      counts = c.loop-at.invariant.counts;
     }
+
+pub loop-at-init : goal.loop-at-init
+loop-at-init c = record {
+  low = omega arith;
+  high = omega arith;
+  counts = c.nothing-counted.ensures c.args.conds.now c.args.logs.now.logs;
+  total =
+      let none : c.args.from - c.args.from ≡ 0 = omega arith in
+      sym (ap (λ k. count_by (number_holds c.args.conds.now c.args.logs.now.logs c.args.n) (range_with_len c.args.from k)) none);
+}
 
 pub overflow_add-total : goal.overflow_add-total
 overflow_add-total c =
@@ -40,7 +51,7 @@ overflow_add-total c =
     let first = c.loop-at.at % c.args.n in
     let e = count_bound q first (first + c.min-row.result - first) in
     let t = c.loop-at.invariant.total in
-    let k = c.row_count-total.ensures in
+    let k = c.next-counted.ensures.hits in
     let row = c.min-row.ensures in
     record { fits = omega arith }
 
@@ -59,9 +70,10 @@ loop-at-preserved c =
     let same : (i : ℕ) → i < row → q (first + i) ≡ number_holds conds logs n (at + i) = λ i lt.
     ap (frame_holds conds logs) (ap (λ f. with_last f (first + i)) frame ∙ sym (row_frame n (length logs) at i (first + i) c.requires.threads.0 refl (omega arith))) in
     let long : first + row - first ≡ row = omega arith in
-    let e = c.row_count-total.ensures ∙ ap (λ k. count_by q (range_with_len first k)) long ∙ count_moved q (number_holds conds logs n) first at row same in
+    let e = c.next-counted.ensures.hits ∙ ap (λ k. count_by q (range_with_len first k)) long ∙ count_moved q (number_holds conds logs n) first at row same in
     record {
       low = omega arith;
       high = omega arith;
+      counts = c.next-counted.ensures.counts;
       total = count_join (number_holds conds logs n) c.args.from at row _ _ c.loop-at.invariant.low c.loop-at.invariant.total e;
     }
