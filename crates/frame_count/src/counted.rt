@@ -7,7 +7,7 @@ ghost use Rattle.frame_count.specs.Count.{IsFrameOf, IsOfLogs, frame_holds, with
 ghost use Rattle.frame_count.specs.Counted.{Counts};
 ghost use Rattle.frame_count.specs.declared.stretch.Stretch.{Stretch};
 
-use crate::reach::{MOST_CONJUNCTIONS, reaches};
+use crate::reach::{MOST_CONJUNCTIONS, hull, reaches};
 use crate::row::count_within;
 use crate::stretch::Stretch;
 use load_log::Logs;
@@ -49,34 +49,36 @@ impl Counted {
         }
     }
 
-    /// The next row, counted. One with the same bounds and stretches as this, where what they leave to test is the same in each row,
-    /// has as many hits, and none of its frames is visited.
+    /// The hits of the next row. One with the same bounds and stretches as the row that is remembered, where what they leave to test is the same
+    /// in each row, has as many, and none of its frames is visited. Else it is the one to remember, if a stretch of it is not empty.
     pub(crate) fn next(
-        &self,
+        &mut self,
         conds: &Conds,
         logs: &Logs,
         frame: &Frame,
         from: usize,
         to: usize,
-    ) -> Counted
+    ) -> u64
         requires frame { (n : ℕ) × (from ≤ to) × (to ≤ n) × IsFrameOf logs.now.logs n frame.now }
         requires names { All (IsOfLogs logs.now.logs) conds.now.conds }
-        requires counts { Counts conds.now logs.now.logs self.now }
-        ensures hits { result.hits ≡ count_by (λ m. frame_holds conds.now logs.now.logs (with_last frame.now m)) (range_with_len from (to - from)) }
-        ensures counts { Counts conds.now logs.now.logs result }
+        requires counts { Counts conds.now logs.now.logs self.old }
+        ensures hits { result ≡ count_by (λ m. frame_holds conds.now logs.now.logs (with_last frame.now m)) (range_with_len from (to - from)) }
+        ensures counts { Counts conds.now logs.now.logs self.new }
     {
         let stretches = reaches(conds, logs, frame, to);
         let some = &stretches[..conds.conjunctions()];
-        let hits = if self.from == from && self.to == to && count_alike(&self.stretches, some) {
-            self.hits
-        } else {
-            count_within(conds, logs, frame, &stretches, from, to)
-        };
-        Counted {
-            from,
-            to,
-            stretches,
-            hits,
+        if self.from == from && self.to == to && count_alike(&self.stretches, some) {
+            return self.hits;
         }
+        let hits = count_within(conds, logs, frame, &stretches, from, to);
+        if !hull(some).is_empty() {
+            *self = Counted {
+                from,
+                to,
+                stretches,
+                hits,
+            };
+        }
+        hits
     }
 }

@@ -37,14 +37,9 @@ hits c =
 pub returns-then-count_alike-clause-hits : goal.returns-then-count_alike-clause-hits
 returns-then-count_alike-clause-hits c = hits c
 
-pub returns-then-count_alike-clause-counts : goal.returns-then-count_alike-clause-counts
-returns-then-count_alike-clause-counts c =
-    counts_alike c.args.conds.now c.args.logs.now.logs c.requires.frame.0 c.args.frame.now
-    (record { from = c.args.from; to = c.args.to; stretches = c.reaches-stretches.result; hits = c.args.self.now.hits })
-    c.requires.frame.1 c.requires.frame.3 c.reaches-stretches.ensures.leave (hits c)
-
-pub returns-else-self-from-clause-counts : goal.returns-else-self-from-clause-counts
-returns-else-self-from-clause-counts c =
+-- the next row is remembered
+pub returns-then-not-is_empty-clause-counts : goal.returns-then-not-is_empty-clause-counts
+returns-then-not-is_empty-clause-counts c =
     counts_alike c.args.conds.now c.args.logs.now.logs c.requires.frame.0 c.args.frame.now
     (record { from = c.args.from; to = c.args.to; stretches = c.reaches-stretches.result; hits = c.count_within-hits.result })
     c.requires.frame.1 c.requires.frame.3 c.reaches-stretches.ensures.leave c.count_within-hits.ensures
