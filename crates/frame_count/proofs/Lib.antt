@@ -6,6 +6,7 @@ pub mod Cuts
 pub mod Digits
 pub mod LogsOfRuns
 pub mod Masks
+pub mod Multiples
 pub mod PairsOfLogs
 pub mod Partition
 pub mod Reaches
