@@ -6,8 +6,10 @@ pub mod Cuts
 pub mod Digits
 pub mod LogsOfRuns
 pub mod Masks
+pub mod Multiples
 pub mod PairsOfLogs
 pub mod Partition
 pub mod Reaches
+pub mod Remembered
 pub mod Stretches
 pub mod Thresholds

@@ -1,16 +1,18 @@
 -- What the other threads' iterations settle of a condition along a row.
-use Rattle.std.proofs.Common.{◌≡◌, ◌≢◌, ℕ, zero, suc, ◌+◌, ◌-◌, ◌*◌, ◌<◌, ◌≤◌, ◌&&◌, ◌||◌, ◌⊎◌, inl, inr, Bool, true, false, not, List, [], ◌∷◌, get_or, length, max, min, nat_le, nat_lt, slice_index, take, refl, sym, ap, ◌∙◌, arith, le-leb, le-ltb, lt-ltb, subst}
-use Rattle.std.proofs.lemmas.Bool.{and_parts, both_ways, cases_Bool, cases_lt, leb-true, lt-leb, ltb-true}
+use Rattle.std.proofs.Common.{◌≡◌, ◌≢◌, ℕ, zero, suc, ◌+◌, ◌-◌, ◌*◌, ◌<◌, ◌≤◌, ◌==◌, ◌&&◌, ◌||◌, ◌⊎◌, inl, inr, Bool, true, false, not, List, [], ◌∷◌, get_or, length, max, min, nat_le, nat_lt, slice_index, take, refl, sym, ap, ◌∙◌, arith, le-leb, le-ltb, lt-ltb, subst}
+use Rattle.std.proofs.lemmas.Bool.{and_parts, both_ways, cases_Bool, cases_lt, eqb-true, leb-true, lt-leb, ltb-true}
 use Rattle.std.proofs.lemmas.List.{get_or-set_other, get_or-set_same, get_or-take, length-take}
 use Rattle.std.proofs.lemmas.Nat.{mul-le}
 use Rattle.load_log.specs.Values.{AreWhole, Values, log_at, value_at}
+use Rattle.outcome_conv.specs.declared.cond.Cond.{Cond}
+use Rattle.outcome_conv.specs.Conds.{kind_holds}
 use Rattle.outcome_conv.specs.Holds.{iteration_in}
 use Rattle.std.specs.List.{list_all}
 use Rattle.x86_subset.specs.Conjunctions.{conjunction_of}
 use Rattle.outcome_conv.specs.Conditions.{Conditions}
 use Rattle.frame_count.specs.Count.{frame_holds, with_last}
 use Rattle.frame_count.specs.declared.stretch.Stretch.{Stretch}
-use Rattle.frame_count.specs.Row.{Leaves, holds_along, is_within, left_along}
+use Rattle.frame_count.specs.Row.{Leaves, holds_along, is_within, left_along, own_along, row_along}
 use Rattle.frame_count.proofs.Conjoining.{any_none}
 use Rattle.frame_count.proofs.Thresholds.{and_false}
 
@@ -61,23 +63,98 @@ column_is n logs log words t column m w l k e same lt =
 -- Booleans
 
 -- what is left of a test that is a place and a rest
-pub settles : (h w r s : Bool) → h ≡ (w && r) → (s ≡ true → r ≡ true) → h ≡ (w && (s || h))
-settles h true r true e f = e ∙ f refl
-settles h false r true e f = e
-settles h true r false e f = refl
+pub settles : (h w r s : Bool) → h ≡ (w && r) → (s ≡ false → r ≡ true) → h ≡ (w && (not s || h))
+settles h true r false e f = e ∙ f refl
 settles h false r false e f = e
+settles h true r true e f = refl
+settles h false r true e f = e
 
--- one more condition of a conjunction: all of them hold where the stretch is and those left hold
-one_more : (a r w s h l v t b : Bool) → a ≡ (w && (s || r)) → (a && r) ≡ a → h ≡ (v && (t || h)) → l ≡ (not b || h) → (b ≡ false → t ≡ true) → (a && h) ≡ ((w && v) && ((s && t) || (r && l)))
-one_more a r w s h l v t b e f g k o = grind arith
+-- one more condition of a conjunction: all of them hold where the stretch is and those left hold, r of the row's and o of its own
+pub one_more : (a w s t r o h v x y k l : Bool) → a ≡ (w && ((not s || r) && (not t || o))) → (a && r) ≡ a → (a && o) ≡ a → h ≡ (v && ((not x || k) && (not y || l))) → (h && k) ≡ h → (h && l) ≡ h
+    → (a && h) ≡ ((w && v) && ((not (s || x) || (r && k)) && (not (t || y) || (o && l))))
+one_more a w s t r o h v x y k l e f g i j m = grind arith
 
-pub one_more_left : (a r h l b : Bool) → (a && r) ≡ a → l ≡ (not b || h) → ((a && h) && (r && l)) ≡ (a && h)
-one_more_left a r h l b f k = grind arith
+pub one_more_left : (a r h k : Bool) → (a && r) ≡ a → (h && k) ≡ h → ((a && h) && (r && k)) ≡ (a && h)
+one_more_left a r h k f g = grind arith
 
--- and with the stretch in which both stand
-pub one_more_met : (a r w s h l v t b x y : Bool) → a ≡ (w && (s || r)) → (a && r) ≡ a → h ≡ (v && (t || h)) → l ≡ (not b || h) → (b ≡ false → t ≡ true) → x ≡ (w && v) → y ≡ (s && t)
-    → (a && h) ≡ (x && (y || (r && l)))
-one_more_met a r w s h l v t b x y e f g k o p q = one_more a r w s h l v t b e f g k o ∙ sym (ap (λ z. z && (y || (r && l))) p ∙ ap (λ z. (w && v) && (z || (r && l))) q)
+-- a condition that holds passes what is left to test of it
+pub row_left : (h b : Bool) → (h && (not b || h)) ≡ h
+row_left true true = refl
+row_left true false = refl
+row_left false b = refl
+
+own_left : (h k b : Bool) → (b ≡ true → k ≡ h) → (h && (not b || k)) ≡ h
+own_left true k true e = e refl
+own_left true k false e = refl
+own_left false k b e = refl
+
+-- a test of the last thread's own stores is the same in each row
+pub own_holds : (logs : List Values) (frame : List ℕ) (m : ℕ) (c : Cond) → 1 ≤ length frame → (c.reader == length frame - 1 && c.writer == length frame - 1) ≡ true
+    → kind_holds c.kind (value_at logs (length frame - 1) c.column m) m ≡ holds_along logs frame m c
+own_holds logs frame m c some e =
+    let both = and_parts (c.reader == length frame - 1) (c.writer == length frame - 1) e in
+    let reader = eqb-true _ _ both.0 in
+    let writer = eqb-true _ _ both.1 in
+    sym (ap (λ i. kind_holds c.kind (value_at logs c.reader c.column i) (iteration_in (with_last frame m) c.writer)) (moves frame c.reader m reader (omega arith))
+    ∙ ap (kind_holds c.kind (value_at logs c.reader c.column m)) (moves frame c.writer m writer (omega arith))
+    ∙ ap (λ t. kind_holds c.kind (value_at logs t c.column m) m) reader)
+
+pub own_passes : (logs : List Values) (frame : List ℕ) (m : ℕ) (c : Cond) → 1 ≤ length frame → (holds_along logs frame m c && own_along logs (length frame - 1) m c) ≡ holds_along logs frame m c
+own_passes logs frame m c some = own_left (holds_along logs frame m c) _ (c.reader == length frame - 1 && c.writer == length frame - 1) (own_holds logs frame m c some)
+
+-- what is left of a condition, by the condition's reader x and writer y, and by what its stretch leaves, s of the row's and t of the own
+pub left_by_reader : (x y s t h k : Bool) → x ≡ false → ((not s || (not (x && not y) || h)) && (not t || (not (x && y) || k))) ≡ true
+left_by_reader x y s t h k e = grind arith
+
+pub left_own : (x y s t h k : Bool) → x ≡ true → y ≡ true → ((not s || (not (x && not y) || h)) && (not t || (not (x && y) || k))) ≡ (not t || k)
+left_own x y s t h k e f = grind arith
+
+pub left_row : (x y s t h k : Bool) → x ≡ true → y ≡ false → ((not s || (not (x && not y) || h)) && (not t || (not (x && y) || k))) ≡ (not s || h)
+left_row x y s t h k e f = grind arith
+
+-- all is left of a condition of the last thread's own
+pub own_stretch : (h w k x y s t : Bool) → x ≡ true → y ≡ true → w ≡ true → t ≡ true → k ≡ h → h ≡ (w && ((not s || (not (x && not y) || h)) && (not t || (not (x && y) || k))))
+own_stretch h w k x y s t e f g i j = grind arith
+
+-- what is left of all conditions
+all_true : {X : Type 0} (p : X → Bool) (xs : List X) → ((x : X) → p x ≡ true) → list_all p xs ≡ true
+all_true p [] h = refl
+all_true p (x ∷ xs) h = ap (λ b. b && list_all p xs) (h x) ∙ all_true p xs h
+
+pub all_same : {X : Type 0} (p q : X → Bool) (xs : List X) → ((x : X) → p x ≡ q x) → list_all p xs ≡ list_all q xs
+all_same p q [] h = refl
+all_same p q (x ∷ xs) h = ap (λ b. b && list_all p xs) (h x) ∙ ap (λ b. q x && b) (all_same p q xs h)
+
+split_one : (s t r o a b : Bool) → (((not s || r) && (not t || o)) && ((not s || a) && (not t || b))) ≡ ((not s || (r && a)) && (not t || (o && b)))
+split_one s t r o a b = grind arith
+
+split_none : (s t : Bool) → true ≡ ((not s || true) && (not t || true))
+split_none true true = refl
+split_none true false = refl
+split_none false true = refl
+split_none false false = refl
+
+pub left_splits : (logs : List Values) (frame : List ℕ) (s : Stretch) (m : ℕ) (xs : List Cond)
+    → list_all (left_along logs frame s m) xs ≡ ((not s.row || list_all (row_along logs frame m) xs) && (not s.own || list_all (own_along logs (length frame - 1) m) xs))
+left_splits logs frame s m [] = split_none s.row s.own
+left_splits logs frame s m (x ∷ xs) =
+    ap (λ b. left_along logs frame s m x && b) (left_splits logs frame s m xs)
+    ∙ split_one s.row s.own (row_along logs frame m x) (own_along logs (length frame - 1) m x) (list_all (row_along logs frame m) xs) (list_all (own_along logs (length frame - 1) m) xs)
+
+-- nothing is left of a settled stretch
+pub left_settled : (logs : List Values) (frame : List ℕ) (s : Stretch) (m : ℕ) (xs : List Cond) → s.row ≡ false → s.own ≡ false → list_all (left_along logs frame s m) xs ≡ true
+left_settled logs frame s m xs e f =
+    all_true (left_along logs frame s m) xs
+    (λ x. ap (λ b. (not b || row_along logs frame m x) && (not s.own || own_along logs (length frame - 1) m x)) e ∙ ap (λ b. not b || own_along logs (length frame - 1) m x) f)
+
+-- a stretch that leaves nothing of the row leaves the same in each row
+pub left_steady : (logs : List Values) (f g : List ℕ) (s : Stretch) (m : ℕ) (xs : List Cond) → length f ≡ length g → s.row ≡ false → list_all (left_along logs f s m) xs ≡ list_all (left_along logs g s m) xs
+left_steady logs f g s m xs long e =
+    all_same (left_along logs f s m) (left_along logs g s m) xs
+    (λ x.
+    ap (λ b. (not b || row_along logs f m x) && (not s.own || own_along logs (length f - 1) m x)) e
+    ∙ ap (λ k. not s.own || own_along logs (k - 1) m x) long
+    ∙ sym (ap (λ b. (not b || row_along logs g m x) && (not s.own || own_along logs (length g - 1) m x)) e))
 
 -- a wider stretch
 pub wider : (f t g u m : ℕ) → g ≤ f → t ≤ u → (nat_le f m && nat_lt m t) ≡ true → (nat_le g m && nat_lt m u) ≡ true
@@ -111,9 +188,9 @@ pub none_outside : (c : Conditions) (logs : List Values) (frame : List ℕ) (n :
 none_outside c logs frame n stretches hull k count each leaves round m lt out =
     any_none (list_all (holds_along logs frame m)) c.ends c.conds
     (λ j l.
-    let d : Stretch = record { from = 0; to = 0; settled = false } in
+    let d : Stretch = record { from = 0; to = 0; row = false; own = false } in
     let s = get_or stretches j d in
     let long = length-take k stretches in
     let same : get_or (take k stretches) j d ≡ s = get_or-take k stretches j d (omega arith) in
     let here = not_within s hull m (λ e. round j m d (omega arith) (ap (λ (x : Stretch). is_within x m) same ∙ e)) out (cases_Bool (is_within s m)) in
-    leaves j d l m lt ∙ ap (λ b. b && (s.settled || list_all (left_along logs frame m) (conjunction_of c.ends c.conds j))) here)
+    leaves j d l m lt ∙ ap (λ b. b && list_all (left_along logs frame s m) (conjunction_of c.ends c.conds j)) here)

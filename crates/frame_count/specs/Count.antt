@@ -1,6 +1,6 @@
 -- Frames of logs, and the count of frames by pieces. An exhaustive counter after PerpLE's (Melissaris, Markakis, Shaw and
 -- Martonosi, MICRO 2020); the cut into pieces is this project's own.
-use Rattle.std.specs.Prelude.{◌≡◌, ℕ, ◌<◌, ◌≤◌, ◌+◌, ◌-◌, ◌*◌, ◌/◌, ◌^◌, Bool, List, All, count_by, length, slice_set}
+use Rattle.std.specs.Prelude.{◌≡◌, ℕ, ◌<◌, ◌≤◌, ◌+◌, ◌-◌, ◌*◌, ◌/◌, ◌%◌, ◌^◌, ◌==◌, Bool, List, All, cond, count_by, length, slice_set}
 use Rattle.std.specs.List.{range_with_len}
 use Rattle.load_log.specs.Values.{AreWhole, Values, log_at, value_at}
 use Rattle.seq_conv.specs.Frame.{frame_of}
@@ -39,18 +39,18 @@ frame_holds c logs frame = conds_hold (value_at logs) c.ends c.conds frame
 abbrev pub number_holds : Conditions → List Values → ℕ → ℕ → Bool
 number_holds c logs n number = frame_holds c logs (frame_of n (length logs) number)
 
--- all frames are cut into so many ranges of neighbouring numbers and nearly the same size: the number of the first frame of range j
+-- all frames are cut into so many pieces of neighbouring numbers and nearly the same size: the number of the first frame of piece j
 abbrev pub cut_at : ℕ → ℕ → ℕ → ℕ
-cut_at all ranges j = j * all / ranges
+cut_at all cut j = j * all / cut
 
--- at how many frames of range j they do
-abbrev pub range_count : Conditions → List Values → ℕ → ℕ → ℕ → ℕ → ℕ
-range_count c logs n all ranges j =
-    count_by (number_holds c logs n) (range_with_len (cut_at all ranges j) (cut_at all ranges (j + 1) - cut_at all ranges j))
-
--- at how many frames of piece j, which is a range from the front and one from the back
+-- at how many frames of piece j they do
 abbrev pub piece_count : Conditions → List Values → ℕ → ℕ → ℕ → ℕ → ℕ
-piece_count c logs n all cut j = range_count c logs n all (2 * cut) j + range_count c logs n all (2 * cut) (2 * cut - 1 - j)
+piece_count c logs n all cut j =
+    count_by (number_holds c logs n) (range_with_len (cut_at all cut j) (cut_at all cut (j + 1) - cut_at all cut j))
+
+-- the piece that is handed out as number j, from the front and from the back by turns
+abbrev pub piece_by_turns : ℕ → ℕ → ℕ
+piece_by_turns cut j = cond (j % 2 == 0) (j / 2) (cut - 1 - j / 2)
 
 -- what the count of a piece needs
 pub record CanCount (c : Conditions) (logs : List Values) (n all cut : ℕ) : Type 0 where

@@ -1,4 +1,5 @@
 pub mod Count
+pub mod Counted
 pub mod Row
 pub mod RunLogs
 pub mod TwoLogs

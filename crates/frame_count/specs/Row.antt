@@ -8,7 +8,7 @@ use Rattle.load_log.specs.Values.{Values, value_at}
 use Rattle.outcome_conv.specs.declared.cond.Cond.{Cond}
 use Rattle.outcome_conv.specs.declared.cond.CondKind.{CondKind}
 use Rattle.outcome_conv.specs.declared.cond.CondKind.TheVariants.{AtLeast, Below, Exact}
-use Rattle.outcome_conv.specs.Conds.{cond_holds}
+use Rattle.outcome_conv.specs.Conds.{cond_holds, kind_holds}
 use Rattle.frame_count.specs.declared.stretch.Stretch.{Stretch}
 use Rattle.frame_count.specs.Count.{with_last}
 
@@ -42,12 +42,19 @@ mask_along p at n = mask_l (map p (range_with_len at n))
 abbrev pub holds_along : List Values → List ℕ → ℕ → Cond → Bool
 holds_along logs frame m c = cond_holds (value_at logs) (with_last frame m) c
 
--- the same of the conditions on what the last thread logged; nothing is asked of the others
-abbrev pub left_along : List Values → List ℕ → ℕ → Cond → Bool
-left_along logs frame m c = not (c.reader == length frame - 1) || holds_along logs frame m c
+-- the same of a condition on what the last thread logged of another thread's stores; nothing is asked of the others
+abbrev pub row_along : List Values → List ℕ → ℕ → Cond → Bool
+row_along logs frame m c = not (c.reader == length frame - 1 && not (c.writer == length frame - 1)) || holds_along logs frame m c
 
--- The stretch leaves the row to the conditions: below n all of them hold where the stretch is and, if it is not settled, those
--- on what the last thread logged hold.
+-- the same of a condition on what the last thread logged of its own stores, which is the same in each row
+abbrev pub own_along : List Values → ℕ → ℕ → Cond → Bool
+own_along logs last m c = not (c.reader == last && c.writer == last) || kind_holds c.kind (value_at logs last c.column m) m
+
+-- what a stretch leaves to test of a condition
+abbrev pub left_along : List Values → List ℕ → Stretch → ℕ → Cond → Bool
+left_along logs frame s m c = (not s.row || row_along logs frame m c) && (not s.own || own_along logs (length frame - 1) m c)
+
+-- the stretch leaves the row to the conditions: below n all of them hold where the stretch is and what it leaves to test passes
 abbrev pub Leaves : ℕ → List Values → List ℕ → List Cond → Stretch → Type 0
 Leaves n logs frame conds s =
-    (m : ℕ) → m < n → list_all (holds_along logs frame m) conds ≡ (is_within s m && (s.settled || list_all (left_along logs frame m) conds))
+    (m : ℕ) → m < n → list_all (holds_along logs frame m) conds ≡ (is_within s m && list_all (left_along logs frame s m) conds)

@@ -1,7 +1,7 @@
 //! Eight and sixty-four iterations of the last thread at once, along a column of its log.
-ghost use Rattle.std.specs.Prelude.{◌≡◌, ℕ, ◌+◌, ◌*◌, ◌<◌, ◌≤◌, ◌^◌, ◌%◌, ◌==◌, Bool, length, map, nat_eq, nat_le, nat_lt, slice_index};
+ghost use Rattle.std.specs.Prelude.{◌≡◌, ℕ, ◌+◌, ◌-◌, ◌*◌, ◌/◌, ◌<◌, ◌≤◌, ◌^◌, ◌%◌, ◌==◌, Bool, true, length, map, nat_eq, nat_le, nat_lt, slice_index};
 ghost use Rattle.std.specs.List.{range_with_len};
-ghost use Rattle.std.specs.Simd.Lanes.{mask_l, zip2};
+ghost use Rattle.std.specs.Simd.Lanes.{Each1, mask_l, zip2};
 ghost use Rattle.outcome_conv.specs.Conditions.{IsKind};
 ghost use Rattle.outcome_conv.specs.Conds.{kind_holds};
 ghost use Rattle.frame_count.specs.Row.{bound_of, kind_test, mask_along};
@@ -58,10 +58,30 @@ fn equal_bits(value: u64x8, bound: u64x8) -> u64
     value.simd_eq(bound).to_bitmask()
 }
 
-/// Which lanes have the residue `a` for `k`. For a power of two, as where a location has one, two or four stores, no lane is divided.
+/// Which lanes of at most 48 bits have the residue `a` for `k`, where `gap` more is a multiple of `k`. A number is one exactly where its
+/// product with `step`, modulo 2^64, is below `step`; so no lane is divided.
 #[inline(always)]
-fn residue_bits(value: u64x8, k: u64, a: u64) -> u64
-    requires some { 1 ≤ k }
+fn multiple_bits(value: u64x8, k: u64, a: u64, gap: u64, step: u64) -> u64
+    requires some { (2 ≤ k) × (k ≤ 128) }
+    requires gap { gap ≡ k - a % k }
+    requires step { step ≡ (2 ^ 64 - 1) / k + 1 }
+    requires lanes { length value ≡ 8 }
+    requires short { Each1 (λ v. nat_lt v (2 ^ 48) ≡ true) value }
+    ensures { result ≡ mask_l (map (λ v. v % k == a % k) value) }
+{
+    less_bits(
+        (value + u64x8::splat(gap)) * u64x8::splat(step),
+        u64x8::splat(step),
+    )
+}
+
+/// Which lanes have the residue `a` for `k`. For a power of two, as where a location has one, two or four stores, and for values of at
+/// most 48 bits no lane is divided.
+#[inline(always)]
+fn residue_bits(value: u64x8, k: u64, a: u64, gap: u64, step: u64) -> u64
+    requires some { (2 ≤ k) × (k ≤ 128) }
+    requires gap { gap ≡ k - a % k }
+    requires step { step ≡ (2 ^ 64 - 1) / k + 1 }
     requires lanes { length value ≡ 8 }
     ensures { result ≡ mask_l (map (λ v. v % k == a % k) value) }
 {
@@ -70,6 +90,8 @@ fn residue_bits(value: u64x8, k: u64, a: u64) -> u64
         (value & u64x8::splat(low))
             .simd_eq(u64x8::splat(a & low))
             .to_bitmask()
+    } else if less_bits(value, u64x8::splat(281474976710656)) == 255 {
+        multiple_bits(value, k, a, gap, step)
     } else {
         (value % u64x8::splat(k))
             .simd_eq(u64x8::splat(a % k))
@@ -190,7 +212,7 @@ fn own_equal_word(values: &[u64], k: u64, a: u64, at: usize) -> u64
 
 /// Which of sixty-four values have the residue `a` for `k`.
 fn residue_word(values: &[u64], k: u64, a: u64, at: usize) -> u64
-    requires some { 1 ≤ k }
+    requires some { (1 ≤ k) × (k ≤ 128) }
     requires at { at + 64 ≤ 100000 }
     requires room { at + 64 ≤ length values.now }
     ensures { result ≡ mask_along (λ m. slice_index values.now m % k == a % k) at 64 }
@@ -198,12 +220,14 @@ fn residue_word(values: &[u64], k: u64, a: u64, at: usize) -> u64
     if k == 1 {
         return u64::MAX;
     }
+    let gap = k - a % k;
+    let step = u64::MAX / k + 1;
     sixty_four(
         at,
         |i: usize| -> u64
-            requires { (1 ≤ k) × (i + 8 ≤ length values.now) }
+            requires { (2 ≤ k) × (k ≤ 128) × (gap ≡ k - a % k) × (step ≡ (2 ^ 64 - 1) / k + 1) × (i + 8 ≤ length values.now) }
             ensures { result ≡ mask_along (λ m. slice_index values.entry.now m % k == a % k) i 8 }
-        { residue_bits(value_lanes(values, i), k, a) },
+        { residue_bits(value_lanes(values, i), k, a, gap, step) },
     )
 }
 

@@ -16,6 +16,7 @@
 #![tactic(auto)]
 
 mod at_frame;
+mod counted;
 mod lanes;
 mod laws;
 mod numbers;

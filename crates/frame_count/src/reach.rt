@@ -1,8 +1,8 @@
 //! How far the conditions of a row reach: what does not depend on the last thread's iteration is tested here, once a row.
-ghost use Rattle.std.specs.Prelude.{◌≡◌, ℕ, ◌-◌, ◌<◌, ◌≤◌, ◌==◌, ◌&&◌, ◌||◌, All, false, length, slice_index_or, true};
+ghost use Rattle.std.specs.Prelude.{◌≡◌, ℕ, ◌-◌, ◌<◌, ◌≤◌, ◌==◌, ◌&&◌, ◌||◌, All, false, length, not, slice_index_or, true};
 ghost use Rattle.x86_subset.specs.Conjunctions.{conjunction_of};
 ghost use Rattle.frame_count.specs.Count.{IsFrameOf, IsGood, IsOfLogs};
-ghost use Rattle.frame_count.specs.Row.{Leaves, holds_along, is_within};
+ghost use Rattle.frame_count.specs.Row.{Leaves, holds_along, is_within, left_along};
 ghost use Rattle.frame_count.specs.declared.stretch.Stretch.{Stretch};
 
 use crate::at_frame::logged;
@@ -13,14 +13,14 @@ use outcome_conv::{Cond, Conds};
 use perp_base::Frame;
 
 /// How many conjunctions there are at most.
-const MOST_CONJUNCTIONS: usize = 8;
+pub(crate) const MOST_CONJUNCTIONS: usize = 8;
 
 /// Where a condition holds whose reader is not the last thread.
 fn reader_stays(cond: &Cond, logs: &Logs, frame: &Frame, n: usize) -> Stretch
     requires frame { (all : ℕ) × (n ≤ all) × IsFrameOf logs.now.logs all frame.now × IsGood logs.now.logs cond.now }
     requires reader { (cond.now.reader == length frame.now - 1) ≡ false }
     ensures within { (m : ℕ) → m < n → holds_along logs.now.logs frame.now m cond.now ≡ is_within result m }
-    ensures settled { result.settled ≡ true }
+    ensures settled { (result.row ≡ false) × (result.own ≡ false) }
 {
     let reader = cond.reader as usize;
     let writer = cond.writer as usize;
@@ -37,7 +37,8 @@ fn writer_stays(cond: &Cond, logs: &Logs, frame: &Frame, n: usize) -> Stretch
     requires frame { (all : ℕ) × (n ≤ all) × IsFrameOf logs.now.logs all frame.now × IsGood logs.now.logs cond.now }
     requires reader { (cond.now.reader == length frame.now - 1) ≡ true }
     requires writer { (cond.now.writer == length frame.now - 1) ≡ false }
-    ensures tells { (m : ℕ) → m < n → holds_along logs.now.logs frame.now m cond.now ≡ (is_within result m && (result.settled || holds_along logs.now.logs frame.now m cond.now)) }
+    ensures tells { (m : ℕ) → m < n → holds_along logs.now.logs frame.now m cond.now ≡ (is_within result m && (not result.row || holds_along logs.now.logs frame.now m cond.now)) }
+    ensures own { result.own ≡ false }
 {
     let column = cond.column as usize;
     let log = logs.at(cond.reader as usize);
@@ -45,15 +46,14 @@ fn writer_stays(cond: &Cond, logs: &Logs, frame: &Frame, n: usize) -> Stretch
         let bound = bound(cond.kind, frame.at(cond.writer as usize));
         Stretch::of_values(cond.kind, &log.column(column)[..n], bound)
     } else {
-        Stretch::left(n)
+        Stretch::left(n, true)
     }
 }
 
 /// Where a condition can hold in the first `n` iterations of the last thread.
 fn cond_stretch(cond: &Cond, logs: &Logs, frame: &Frame, n: usize) -> Stretch
     requires frame { (all : ℕ) × (n ≤ all) × IsFrameOf logs.now.logs all frame.now × IsGood logs.now.logs cond.now }
-    ensures tells { (m : ℕ) → m < n → holds_along logs.now.logs frame.now m cond.now ≡ (is_within result m && (result.settled || holds_along logs.now.logs frame.now m cond.now)) }
-    ensures others { (cond.now.reader == length frame.now - 1) ≡ false → result.settled ≡ true }
+    ensures tells { (m : ℕ) → m < n → holds_along logs.now.logs frame.now m cond.now ≡ (is_within result m && left_along logs.now.logs frame.now result m cond.now) }
 {
     let last = frame.len() - 1;
     if cond.reader as usize != last {
@@ -61,7 +61,7 @@ fn cond_stretch(cond: &Cond, logs: &Logs, frame: &Frame, n: usize) -> Stretch
     } else if cond.writer as usize != last {
         writer_stays(cond, logs, frame, n)
     } else {
-        Stretch::left(n)
+        Stretch::left(n, false)
     }
 }
 
@@ -89,7 +89,8 @@ pub(crate) fn reaches(
 ) -> [Stretch; MOST_CONJUNCTIONS]
     requires frame { (all : ℕ) × (n ≤ all) × IsFrameOf logs.now.logs all frame.now }
     requires names { All (IsOfLogs logs.now.logs) conds.now.conds }
-    ensures { (c : ℕ) (d : Stretch) → c < length conds.now.ends → Leaves n logs.now.logs frame.now (conjunction_of conds.now.ends conds.now.conds c) (slice_index_or result c d) }
+    ensures each { length conds.now.ends ≤ length result }
+    ensures leave { (c : ℕ) (d : Stretch) → c < length conds.now.ends → Leaves n logs.now.logs frame.now (conjunction_of conds.now.ends conds.now.conds c) (slice_index_or result c d) }
 {
     let mut stretches = [Stretch::all_or_none(false, n); MOST_CONJUNCTIONS];
     for c in 0..conds.conjunctions() {
@@ -105,7 +106,8 @@ pub(crate) fn hull(stretches: &[Stretch]) -> Stretch
     let mut hull = Stretch {
         from: usize::MAX,
         to: 0,
-        settled: false,
+        row: false,
+        own: false,
     };
     for stretch in stretches {
         hull.from = hull.from.min(stretch.from);

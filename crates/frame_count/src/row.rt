@@ -9,7 +9,7 @@ ghost use Rattle.frame_count.specs.declared.stretch.Stretch.{Stretch};
 ghost use Rattle.frame_count.specs.Row.{Leaves, holds_along, left_along, mask_along};
 
 use crate::lanes::{bound, own_word, values_word};
-use crate::one::some_at;
+use crate::one::{is_left, some_at};
 use crate::reach::{hull, reaches};
 use crate::stretch::Stretch;
 use load_log::Logs;
@@ -32,27 +32,27 @@ fn cond_word(cond: &Cond, logs: &Logs, frame: &Frame, at: usize) -> u64
     }
 }
 
-/// At which of sixty-four iterations a condition holds, if it is on what the last thread logged; else all of them.
+/// At which of sixty-four iterations a condition holds, if its stretch leaves it to test; else all of them.
 #[inline(always)]
-fn one_word(cond: &Cond, logs: &Logs, frame: &Frame, at: usize) -> u64
+fn one_word(cond: &Cond, logs: &Logs, frame: &Frame, stretch: Stretch, at: usize) -> u64
     requires { (n : ℕ) × (at + 64 ≤ n) × IsFrameOf logs.now.logs n frame.now × IsGood logs.now.logs cond.now }
-    ensures { result ≡ mask_along (λ m. left_along logs.now.logs frame.now m cond.now) at 64 }
+    ensures { result ≡ mask_along (λ m. left_along logs.now.logs frame.now stretch m cond.now) at 64 }
 {
-    if cond.reader as usize == frame.len() - 1 {
+    if is_left(cond, frame, stretch) {
         cond_word(cond, logs, frame, at)
     } else {
         u64::MAX
     }
 }
 
-/// At which of sixty-four iterations the conditions on what the last thread logged hold.
-fn left_word(conds: &[Cond], logs: &Logs, frame: &Frame, at: usize) -> u64
+/// At which of sixty-four iterations the conditions that a stretch leaves to test hold.
+fn left_word(conds: &[Cond], logs: &Logs, frame: &Frame, stretch: Stretch, at: usize) -> u64
     requires { (n : ℕ) × (at + 64 ≤ n) × IsFrameOf logs.now.logs n frame.now × All (IsGood logs.now.logs) conds.now }
-    ensures { result ≡ mask_along (λ m. list_all (left_along logs.now.logs frame.now m) conds.now) at 64 }
+    ensures { result ≡ mask_along (λ m. list_all (left_along logs.now.logs frame.now stretch m) conds.now) at 64 }
 {
     let mut word = u64::MAX;
     for cond in conds {
-        word &= one_word(cond, logs, frame, at);
+        word &= one_word(cond, logs, frame, stretch, at);
         if word == 0 {
             return 0;
         }
@@ -67,12 +67,12 @@ fn all_word(conds: &[Cond], logs: &Logs, frame: &Frame, stretch: Stretch, at: us
     ensures { result ≡ mask_along (λ m. list_all (holds_along logs.now.logs frame.now m) conds.now) at 64 }
 {
     let within = stretch.word(at);
-    if stretch.settled {
-        within
-    } else if within == 0 {
+    if within == 0 {
         0
+    } else if stretch.is_settled() {
+        within
     } else {
-        within & left_word(conds, logs, frame, at)
+        within & left_word(conds, logs, frame, stretch, at)
     }
 }
 
@@ -139,6 +139,31 @@ fn count_between(
     total + count_singly(conds, logs, frame, stretches, at, to)
 }
 
+/// The same of a row with these stretches, where one of them is.
+pub(crate) fn count_within(
+    conds: &Conds,
+    logs: &Logs,
+    frame: &Frame,
+    stretches: &[Stretch],
+    from: usize,
+    to: usize,
+) -> u64
+    requires frame { (n : ℕ) × (from ≤ to) × (to ≤ n) × IsFrameOf logs.now.logs n frame.now }
+    requires names { All (IsOfLogs logs.now.logs) conds.now.conds }
+    requires each { length conds.now.ends ≤ length stretches.now }
+    requires stretches { (c : ℕ) (d : Stretch) → c < length conds.now.ends → Leaves to logs.now.logs frame.now (conjunction_of conds.now.ends conds.now.conds c) (slice_index_or stretches.now c d) }
+    ensures { result ≡ count_by (λ m. frame_holds conds.now logs.now.logs (with_last frame.now m)) (range_with_len from (to - from)) }
+{
+    let hull = hull(&stretches[..conds.conjunctions()]);
+    let first = hull.from.max(from);
+    let end = hull.to.min(to);
+    if first < end {
+        count_between(conds, logs, frame, stretches, first, end)
+    } else {
+        0
+    }
+}
+
 /// At how many iterations of the last thread from `from` up to and without `to`, with the frame's iterations of the others, the
 /// conditions of some conjunction hold.
 pub fn row_count(conds: &Conds, logs: &Logs, frame: &Frame, from: u32, to: u32) -> u64
@@ -147,12 +172,5 @@ pub fn row_count(conds: &Conds, logs: &Logs, frame: &Frame, from: u32, to: u32) 
     ensures { result ≡ count_by (λ m. conds_hold (value_at logs.now.logs) conds.now.ends conds.now.conds (with_last frame.now m)) (range_with_len from (to - from)) }
 {
     let stretches = reaches(conds, logs, frame, to as usize);
-    let hull = hull(&stretches[..conds.conjunctions()]);
-    let first = hull.from.max(from as usize);
-    let end = hull.to.min(to as usize);
-    if first < end {
-        count_between(conds, logs, frame, &stretches, first, end)
-    } else {
-        0
-    }
+    count_within(conds, logs, frame, &stretches, from as usize, to as usize)
 }

@@ -1,5 +1,5 @@
 //! Stretches: the neighbouring iterations of the last thread to which a condition leaves a row of frames.
-ghost use Rattle.std.specs.Prelude.{◌≡◌, ℕ, ◌+◌, ◌<◌, ◌≤◌, ◌^◌, ◌%◌, ◌==◌, ◌&&◌, ◌||◌, ◌*◌, Bool, false, true, length, nat_le, nat_lt, slice_index};
+ghost use Rattle.std.specs.Prelude.{◌≡◌, ℕ, ◌+◌, ◌<◌, ◌≤◌, ◌^◌, ◌%◌, ◌==◌, ◌&&◌, ◌||◌, ◌*◌, Bool, false, not, true, length, nat_le, nat_lt, slice_index};
 ghost use Rattle.std.specs.List.Sorted.{IsNonDecreasing};
 ghost use Rattle.outcome_conv.specs.Conditions.{IsKind};
 ghost use Rattle.outcome_conv.specs.Conds.{kind_holds};
@@ -7,12 +7,14 @@ ghost use Rattle.frame_count.specs.Row.{is_within, kind_test, mask_along, residu
 
 use outcome_conv::CondKind;
 
-/// The iterations from `from` up to and without `to`. `settled` says that the condition holds at each of them; else they are left to test.
+/// The iterations from `from` up to and without `to`, and what is left to test at them: conditions on what the last thread logged of
+/// the others' stores, whose tests change from row to row, or of its own, whose tests are the same in each row.
 #[derive(Clone, Copy)]
 pub(crate) struct Stretch {
     pub from: usize,
     pub to: usize,
-    pub settled: bool,
+    pub row: bool,
+    pub own: bool,
 }
 
 /// How many iterations `m` have `k * m + a` at most this value.
@@ -67,33 +69,36 @@ fn how_many_up_to(values: &[u64], bound: u64) -> usize
 }
 
 impl Stretch {
-    /// The first `n` iterations, which are left to test.
-    pub(crate) fn left(n: usize) -> Stretch
+    /// The first `n` iterations, left to a test that changes from row to row or to one that does not.
+    pub(crate) fn left(n: usize, row: bool) -> Stretch
         ensures within { (m : ℕ) → m < n → is_within result m ≡ true }
-        ensures settled { result.settled ≡ false }
+        ensures row { result.row ≡ row }
+        ensures own { result.own ≡ not row }
     {
         Stretch {
             from: 0,
             to: n,
-            settled: false,
+            row,
+            own: !row,
         }
     }
 
     /// The iterations from `from` up to and without `to`, at each of which the condition holds.
     fn settled(from: usize, to: usize) -> Stretch
-        ensures { result ≡ record { from = from; to = to; settled = true } }
+        ensures { result ≡ record { from = from; to = to; row = false; own = false } }
     {
         Stretch {
             from,
             to,
-            settled: true,
+            row: false,
+            own: false,
         }
     }
 
     /// The first `n` iterations, or none of them.
     pub(crate) fn all_or_none(all: bool, n: usize) -> Stretch
         ensures within { (m : ℕ) → m < n → is_within result m ≡ all }
-        ensures settled { result.settled ≡ true }
+        ensures settled { (result.row ≡ false) × (result.own ≡ false) }
     {
         if all {
             Stretch::settled(0, n)
@@ -106,7 +111,7 @@ impl Stretch {
     pub(crate) fn of_writer(kind: CondKind, value: u64, n: usize) -> Stretch
         requires kind { IsKind kind }
         ensures within { (m : ℕ) → m < n → kind_holds kind value m ≡ is_within result m }
-        ensures settled { result.settled ≡ true }
+        ensures settled { (result.row ≡ false) × (result.own ≡ false) }
     {
         match kind {
             CondKind::AtLeast { k, a } => {
@@ -132,13 +137,15 @@ impl Stretch {
         requires kind { IsKind kind }
         requires order { IsNonDecreasing values.now }
         ensures within { (m : ℕ) → m < length values.now → kind_test kind (slice_index values.now m) bound ≡ (is_within result m && residue_fits kind (slice_index values.now m)) }
-        ensures settled { result.settled ≡ true → (v : ℕ) → residue_fits kind v ≡ true }
+        ensures settled { result.row ≡ false → (v : ℕ) → residue_fits kind v ≡ true }
+        ensures own { result.own ≡ false }
     {
         match kind {
             CondKind::AtLeast { k, .. } => Stretch {
                 from: how_many_below(values, bound),
                 to: values.len(),
-                settled: k == 1,
+                row: k != 1,
+                own: false,
             },
             CondKind::Below { .. } => Stretch::settled(0, how_many_below(values, bound)),
             CondKind::Exact { .. } => Stretch::settled(
@@ -151,13 +158,33 @@ impl Stretch {
     /// The iterations in both.
     pub(crate) fn meet(self, other: Stretch) -> Stretch
         ensures within { (m : ℕ) → is_within result m ≡ (is_within self m && is_within other m) }
-        ensures settled { result.settled ≡ (self.settled && other.settled) }
+        ensures row { result.row ≡ (self.row || other.row) }
+        ensures own { result.own ≡ (self.own || other.own) }
     {
         Stretch {
             from: self.from.max(other.from),
             to: self.to.min(other.to),
-            settled: self.settled && other.settled,
+            row: self.row || other.row,
+            own: self.own || other.own,
         }
+    }
+
+    /// Whether both are the same, and what they leave to test is too, in each row.
+    pub(crate) fn counts_as(self, other: Stretch) -> bool
+        ensures { result ≡ true → (self ≡ other) × (self.row ≡ false) }
+    {
+        self.from == other.from
+            && self.to == other.to
+            && self.own == other.own
+            && !self.row
+            && !other.row
+    }
+
+    /// Whether nothing is left to test.
+    pub(crate) fn is_settled(self) -> bool
+        ensures { result ≡ true → (self.row ≡ false) × (self.own ≡ false) }
+    {
+        !self.row && !self.own
     }
 
     /// Whether an iteration is in it.

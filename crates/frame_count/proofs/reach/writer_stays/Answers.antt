@@ -65,4 +65,5 @@ tells c m lt =
 pub returns-then-rises : goal.returns-then-rises
 returns-then-rises c = record {
   tells = λ m lt. settles _ _ (residue_fits c.args.cond.now.kind (value_at c.args.logs.now.logs c.args.cond.now.reader c.args.cond.now.column m)) _ (tells c m lt) (λ e. c.of_values.ensures.settled e _);
+  own = c.of_values.ensures.own;
 }

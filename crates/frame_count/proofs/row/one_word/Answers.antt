@@ -1,13 +1,16 @@
-use Rattle.std.proofs.Common.{◌-◌, ◌||◌, true, not, length, ap, arith, ne_eqb}
-use Rattle.frame_count.specs.Row.{holds_along, left_along}
+use Rattle.std.proofs.Common.{true, sym, arith, ◌∙◌}
+use Rattle.frame_count.specs.Row.{left_along}
 use Rattle.frame_count.proofs.Along.{along_same, along_true}
 use Rattle.frame_count.proofs.row.one_word.Goals as goal
 
-pub returns-else-cond-len : goal.returns-else-cond-len
-returns-else-cond-len c =
-    let e = c.len.ensures.value in
-    let other = ne_eqb c.args.cond.now.reader (length c.args.frame.now - 1) (λ same. omega arith) in
+pub returns-then-is_left : goal.returns-then-is_left
+returns-then-is_left c =
+    c.cond_word.ensures
+    ∙ along_same _ _ c.args.at 64 (λ m. sym (c.is_left.ensures.left c.if-is_left.true c.args.logs.now.logs m))
+
+pub returns-else-is_left : goal.returns-else-is_left
+returns-else-is_left c =
     let all = along_true c.args.at 64 in
-    let same = along_same (λ m. left_along c.args.logs.now.logs c.args.frame.now m c.args.cond.now) (λ m. true) c.args.at 64
-    (λ m. ap (λ b. not b || holds_along c.args.logs.now.logs c.args.frame.now m c.args.cond.now) other) in
+    let same = along_same (λ m. left_along c.args.logs.now.logs c.args.frame.now c.args.stretch m c.args.cond.now) (λ m. true) c.args.at 64
+    (λ m. c.is_left.ensures.passed c.if-is_left.false c.args.logs.now.logs m) in
     omega arith
