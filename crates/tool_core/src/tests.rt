@@ -125,7 +125,7 @@ const JUDGED: [(&str, &str, u8, &str, &str); 16] = [
 
 // The words, a test, the section behind it, the number of the status, and what is written to both sinks. 13 comes before 12, and both
 // before 10, also where a line is bad or missing.
-const SOUGHT: [(&str, &str, &str, u8, &str, &str); 13] = [
+const SOUGHT: [(&str, &str, &str, u8, &str, &str); 15] = [
     (
         "order",
         SBF,
@@ -165,6 +165,23 @@ const SOUGHT: [(&str, &str, &str, u8, &str, &str); 13] = [
         10,
         "",
         "perple: section line 11\n",
+    ),
+    // a line of logs begins with the plain name of its thread
+    (
+        "order",
+        SB,
+        "%logs 1\nP00 0\nP1 0\n",
+        10,
+        "",
+        "perple: section line 8\n",
+    ),
+    (
+        "order",
+        SB,
+        "%logs 1\nP0 0\nP01 0\n",
+        10,
+        "",
+        "perple: section line 9\n",
     ),
     ("order", SB, "%events 1\n", 9, "", "perple: no section\n"),
     (
