@@ -10,6 +10,9 @@
 //! never fall, as where one thread writes, the bounds of a stretch are searched for. What is left is tested eight iterations
 //! at once by lanes, sixty-four to a word.
 //!
+//! A row with the bounds and stretches of the row that is remembered, of which no test is left that changes from row to row, has as many
+//! hits; so it is counted in one step (`Counted::next`). What the last thread reads of its own stores is tested in one row for many.
+//!
 //! What that means for the logs of a run is said by the laws of `specs/RunLogs`: the count is the number of hits of the
 //! run (`counts_are_hits`), that of a row the number of its hits (`rows_count_hits`), and what `outcome_conv` says of the
 //! values of a run holds of the logs (`logs_give_the_values`), which meet what the calls ask (`logs_meet_the_conditions`).
