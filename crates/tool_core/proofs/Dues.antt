@@ -1,5 +1,5 @@
 -- Each input has one refusal that is due, or none; and which statuses are refusals of an input.
-use Rattle.std.proofs.Common.{◌≡◌, ℕ, ◌<◌, ◌≤◌, Bool, true, false, List, length, Some, None, Result, Ok, Err, nat_lt, if◌then◌else◌, MatchBool, option_map, refl, sym, ap, subst, ◌∙◌, arith}
+use Rattle.std.proofs.Common.{◌≡◌, ◌⊎◌, inl, inr, ℕ, ◌<◌, ◌≤◌, Bool, true, false, List, length, Some, None, Result, Ok, Err, nat_lt, if◌then◌else◌, MatchBool, option_map, refl, sym, ap, subst, ◌∙◌, arith}
 use Rattle.std.specs.declared.option.Option.{Option}
 use Rattle.x86_subset.specs.Test.{LitmusTest}
 use Rattle.x86_subset.specs.declared.test.Shape.{Shape}
@@ -17,7 +17,7 @@ use Rattle.run_text.specs.Sections.{Split}
 use Rattle.program_edge.specs.Form.{IsUnread, due_for_atoms, due_for_form, over_of}
 use Rattle.tool_core.specs.Due.{IsDue, IsDueForParts, IsDueForText, due_for_events, due_for_lines, due_for_reading, due_for_test, due_for_witness, due_for_writers, first_due, most_events_of, parts_of, section_logs}
 use Rattle.tool_core.specs.declared.words.Command.{Command}
-use Rattle.tool_core.specs.declared.words.Command.TheVariants.{Judge, Order, Witness, Verdict, Skew}
+use Rattle.tool_core.specs.declared.words.Command.TheVariants.{Judge, Order, Witness, Verdict, Show, Skew}
 use Rattle.tool_core.specs.declared.status.ToolStatus.{ToolStatus}
 use Rattle.tool_core.specs.declared.status.ToolStatus.TheVariants.{Core, NoSection, BadLine, TooLong, Events, SeveralWriters}
 
@@ -57,7 +57,7 @@ IsOfInput command (Core Usage) = ⊥
 IsOfInput command (Core ReadFault) = ⊥
 IsOfInput command (Core WriteFault) = ⊥
 IsOfInput command (Core (NotLitmus kind line)) = Unit {0}
-IsOfInput command (Core (OutsideProfile atom kind)) = command ≡ Verdict
+IsOfInput command (Core (OutsideProfile atom kind)) = (command ≡ Verdict) ⊎ (command ≡ Show)
 IsOfInput command (Core (Limit over)) = IsOfText over
 IsOfInput command NoSection = Unit {0}
 IsOfInput command (BadLine line) = Unit {0}
@@ -96,9 +96,10 @@ of_witness command test n =
     of_first command (due_for_writers test) (due_for_events test n)
     (of_location command _) (of_count command (nat_lt 1000000 (most_events_of test n)))
 
-of_profile : (profile : Profile) → Gives Verdict (option_map Core (due_for_atoms profile))
-of_profile inside = of_none Verdict
-of_profile (outside atom kind) = λ s e. some_of Verdict (Core (OutsideProfile atom _)) s e refl
+of_profile : (command : Command) (profile : Profile) → (command ≡ Verdict) ⊎ (command ≡ Show)
+    → Gives command (option_map Core (due_for_atoms profile))
+of_profile command inside counts = of_none command
+of_profile command (outside atom kind) counts = λ s e. some_of command (Core (OutsideProfile atom _)) s e counts
 
 of_test : (command : Command) (test : LitmusTest) (parts : Split) → Gives command (due_for_test command test parts)
 of_test Judge test parts = of_lines Judge (events_of parts.line parts.lines)
@@ -106,7 +107,8 @@ of_test Order test parts =
     of_first Order (due_for_witness test parts.iterations) (due_for_lines (section_logs test parts))
     (of_witness Order test parts.iterations) (of_lines Order (section_logs test parts))
 of_test (Witness n) test parts = of_witness (Witness n) test n
-of_test Verdict test parts = of_profile (profile_of test)
+of_test Verdict test parts = of_profile Verdict (profile_of test) (inl refl)
+of_test Show test parts = of_profile Show (profile_of test) (inr refl)
 of_test (Skew n) test parts = of_none (Skew n)
 
 of_shape : (shape : Shape) → IsOfText (over_of shape)

@@ -21,7 +21,7 @@ use Rattle.tool_core.specs.Texts.{options_of}
 use Rattle.tool_core.specs.Top.{Answers, AnswersDue, AnswersTooLong, Completes, Ended, HasAnswer, HasRun, IsAfterReading, IsAnswer, IsField, IsStillCommand, IsText, IsUsage, KeepsSource, Leaves, RanFor, ReadsToEnd, RunFits, SuitsCommand, Told, WritesPart, WritesWhole, WroteAsTool, iterations_run}
 use Rattle.tool_core.specs.Top.Ended.{ended_refused, ended_whole, ended_part}
 use Rattle.tool_core.specs.declared.words.Command.{Command}
-use Rattle.tool_core.specs.declared.words.Command.TheVariants.{Judge, Order, Witness, Verdict, Skew}
+use Rattle.tool_core.specs.declared.words.Command.TheVariants.{Judge, Order, Witness, Verdict, Show, Skew}
 use Rattle.tool_core.specs.declared.status.ToolStatus.{ToolStatus}
 use Rattle.tool_core.specs.declared.status.ToolStatus.TheVariants.{Core, TooLong}
 use Rattle.tool_core.proofs.Dues.{IsOfInput, due_for_text, of_input, one_due, test_is_due}
@@ -115,6 +115,11 @@ neither : (words : List (List ℕ)) (status : ToolStatus) → ((atom kind : ℕ)
     → (status ≡ Core (Limit Frames) → ⊥) → SuitsCommand words status
 neither words status profile frames = record { outside_profile = λ atom kind e. absurd (profile atom kind e); frames = frames }
 
+counts_atoms : (words : List (List ℕ)) (command : Command) → command_of words ≡ Some command → (command ≡ Verdict) ⊎ (command ≡ Show)
+    → (command_of words ≡ Some Verdict) ⊎ (command_of words ≡ Some Show)
+counts_atoms words command is (inl verdict) = inl (is ∙ ap Some verdict)
+counts_atoms words command is (inr show) = inr (is ∙ ap Some show)
+
 pub suits_of : (words : List (List ℕ)) (old new : View) (done : Closed) (out_old out_new : View) (untouched : Type 0) (status : ToolStatus)
     → Ended words old new done out_old out_new untouched status → SuitsCommand words status
 suits_of words old new done out_old out_new untouched _ (ended_whole text answers written) = neither words _ (λ _ _ e. cc) (λ e. cc)
@@ -127,7 +132,8 @@ suits_of words old new done out_old out_new untouched _ (ended_refused _ (no_rea
 suits_of words old new done out_old out_new untouched _ (ended_refused _ (too_long is over) ran kept) =
     neither words _ (λ _ _ e. cc) (λ e. cc)
 suits_of words old new done out_old out_new untouched _ (ended_refused _ (no_input status command taken took due) ran kept) = record {
-  outside_profile = λ atom kind e. took.command_is ∙ ap Some (subst (IsOfInput command) e (of_input command taken status due));
+  outside_profile = λ atom kind e.
+      counts_atoms words command took.command_is (subst (IsOfInput command) e (of_input command taken status due));
   frames = λ e. subst (IsOfInput command) e (of_input command taken status due);
 }
 
@@ -223,6 +229,7 @@ still_text Judge test parts done text still right = right.0
 still_text Order test parts done text still right = right.0
 still_text (Witness n) test parts done text still right = absurd (cc)
 still_text Verdict test parts done text still right = right.0
+still_text Show test parts done text still right = right.0
 still_text (Skew n) test parts done text still right = absurd (cc)
 
 still_ran : (command : Command) (test : LitmusTest) (done : Closed) → IsStillCommand command → RanFor command test done → ⊥
@@ -230,6 +237,7 @@ still_ran Judge test done still ran = ran
 still_ran Order test done still ran = ran
 still_ran (Witness n) test done still ran = cc
 still_ran Verdict test done still ran = ran
+still_ran Show test done still ran = ran
 still_ran (Skew n) test done still ran = cc
 
 other_command_of : (words : List (List ℕ)) (old new : View) (done : Closed) (out_old out_new : View) (untouched : Type 0) (status : ToolStatus)
@@ -316,6 +324,7 @@ fits_by Order n input text read done e reads a = absurd (cc)
 fits_by (Witness m) n input text read done e reads a =
     fits_for m n a.test read done e (whole_test input a.parts a.test read a.accepts.parts_are a.accepts.reading reads) a.right.some_run
 fits_by Verdict n input text read done e reads a = absurd (cc)
+fits_by Show n input text read done e reads a = absurd (cc)
 fits_by (Skew m) n input text read done e reads a =
     fits_for m n a.test read done e (whole_test input a.parts a.test read a.accepts.parts_are a.accepts.reading reads) a.right.some_run
 

@@ -2,6 +2,7 @@ pub mod Dues
 pub mod Endings
 pub mod Answering
 pub mod VerdictSaid
+pub mod ShowingSaid
 pub mod SkewOfRuns
 pub mod OneWriter
 pub mod WitnessOfRuns

@@ -20,7 +20,7 @@ use Rattle.program_edge.specs.View.{View}
 use Rattle.program_edge.specs.Form.{due_for_atoms, due_for_form}
 use Rattle.tool_core.specs.Words.{command_of}
 use Rattle.tool_core.specs.declared.words.Command.{Command}
-use Rattle.tool_core.specs.declared.words.Command.TheVariants.{Judge, Order, Witness, Verdict, Skew}
+use Rattle.tool_core.specs.declared.words.Command.TheVariants.{Judge, Order, Witness, Verdict, Show, Skew}
 use Rattle.tool_core.specs.declared.status.ToolStatus.{ToolStatus}
 use Rattle.tool_core.specs.declared.status.ToolStatus.TheVariants.{Core, NoSection, BadLine, TooLong, Events, SeveralWriters}
 
@@ -32,6 +32,7 @@ heading_of Judge = Some (codes "%events")
 heading_of Order = Some (codes "%logs")
 heading_of (Witness n) = None
 heading_of Verdict = None
+heading_of Show = None
 heading_of (Skew n) = None
 
 -- without a section the whole input is the litmus part
@@ -94,6 +95,7 @@ due_for_test Order test parts =
     first_due (due_for_witness test parts.iterations) (due_for_lines (section_logs test parts))
 due_for_test (Witness n) test parts = due_for_witness test n
 due_for_test Verdict test parts = option_map Core (due_for_atoms (profile_of test))
+due_for_test Show test parts = option_map Core (due_for_atoms (profile_of test))
 due_for_test (Skew n) test parts = None
 
 -- ---- refusals of an input

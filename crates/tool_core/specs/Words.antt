@@ -3,7 +3,7 @@ use Rattle.std.specs.Prelude.{◌≤◌, ℕ, List, [], ◌∷◌, Option, Some,
 use Rattle.std.specs.Str.{bytes_eq}
 use Rattle.command_words.specs.Words.{iterations_in}
 use Rattle.tool_core.specs.declared.words.Command.{Command}
-use Rattle.tool_core.specs.declared.words.Command.TheVariants.{Judge, Order, Witness, Verdict, Skew}
+use Rattle.tool_core.specs.declared.words.Command.TheVariants.{Judge, Order, Witness, Verdict, Show, Skew}
 
 -- a command that takes no further word
 abbrev pub alone : Command → List (List ℕ) → Option Command
@@ -17,6 +17,7 @@ named_in name words =
     else if bytes_eq name (codes "order") then alone Order words
     else if bytes_eq name (codes "witness") then option_map Witness (iterations_in words)
     else if bytes_eq name (codes "verdict") then alone Verdict words
+    else if bytes_eq name (codes "show") then alone Show words
     else if bytes_eq name (codes "skew") then option_map Skew (iterations_in words) else None
 
 -- the command that the words name, if any
@@ -30,4 +31,5 @@ HasIterations Judge = Unit {0}
 HasIterations Order = Unit {0}
 HasIterations (Witness n) = (1 ≤ n) × (n ≤ 100000)
 HasIterations Verdict = Unit {0}
+HasIterations Show = Unit {0}
 HasIterations (Skew n) = (1 ≤ n) × (n ≤ 100000)

@@ -57,8 +57,9 @@ fn push_cycles(out: &mut String, cycles: &[Vec<Node>]) -> Result<(), NoMemory>
     Ok(())
 }
 
+/// The text where each conjunction has a cycle.
 #[tactic(auto, unfolding(crate::specs::Texts::forbidden_text))]
-fn cycles_text(alloc: Global, cycles: &[Vec<Node>]) -> Result<String, NoMemory>
+pub fn cycles_text(alloc: Global, cycles: &[Vec<Node>]) -> Result<String, NoMemory>
     ensures { IfOk result (λ text. string_bytes text ≡ forbidden_text (map (λ c. c.items) cycles.now)) }
 {
     let mut out = String::new(alloc);

@@ -16,6 +16,8 @@ pub enum Command {
     Witness(u32),
     /// Say whether the outcome is forbidden.
     Verdict,
+    /// Show a run in which a conjunction of the condition holds.
+    Show,
     /// Run the test so often, and tell how far apart the threads were.
     Skew(u32),
 }
@@ -49,6 +51,7 @@ pub fn read_words(alloc: Global, words: &[String]) -> Result<Command, WordsError
         "order" => alone(words, Command::Order),
         "witness" => Ok(Command::Witness(read_iterations(alloc, words)?)),
         "verdict" => alone(words, Command::Verdict),
+        "show" => alone(words, Command::Show),
         "skew" => Ok(Command::Skew(read_iterations(alloc, words)?)),
         _ => Err(WordsError::Usage),
     }

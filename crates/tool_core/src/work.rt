@@ -10,6 +10,7 @@ ghost use Rattle.tool_core.specs.Words.{HasIterations};
 
 use crate::judging::judge_section;
 use crate::ordering::order_section;
+use crate::showing::show_on;
 use crate::skews::skew_run;
 use crate::status::ToolStatus;
 use crate::verdicts::verdict_on;
@@ -68,6 +69,7 @@ pub fn work<R: Threads + Sync, G: Gate>(
     match command {
         Command::Judge => Answered::still(judge_section(alloc, &test, section), field),
         Command::Verdict => Answered::still(verdict_on(alloc, test), field),
+        Command::Show => Answered::still(show_on(alloc, test), field),
         Command::Skew(n) => skew_run(rt, alloc, &test, *n, field, gate),
         Command::Witness(n) => witness_run(rt, alloc, &test, *n, field, gate),
         Command::Order => Answered::still(order_section(alloc, &test, section), field),

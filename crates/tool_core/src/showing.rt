@@ -1,0 +1,116 @@
+//! The command `show`: a run in which a conjunction of the condition holds, or why none is given.
+ghost use Rattle.std.specs.Prelude.{◌≡◌, ◌<◌, ◌⊎◌, codes, length, IfOk, IfErr, MatchOption, None, Some, option_map, string_bytes};
+ghost use Rattle.seq_conv.specs.Numbers.{AreOf};
+ghost use Rattle.profile_check.specs.Profile.{profile_of};
+ghost use Rattle.report_text.specs.Words.{number_line};
+ghost use Rattle.verdict.specs.Verdicts.{HasCycle};
+ghost use Rattle.decision.specs.Shown.{IsOrdered};
+ghost use Rattle.program_edge.specs.Form.{due_for_atoms};
+ghost use Rattle.tool_core.specs.Status.{HasToolKind};
+ghost use Rattle.tool_core.specs.Showing.{IsFirstShown, IsShowingText, IsShownBy, NoneIsShown, unshown_text_of};
+
+use crate::status::ToolStatus;
+use crate::verdicts::cycles_text;
+use crate::witnessing::run_text;
+use decision::{Shown, is_ordered, show};
+use perp_base::NoMemory;
+use profile_check::Checked;
+use program_edge::check_test;
+use report_text::Status;
+use run_judge::RunEvent;
+use seq_conv::Sequences;
+use std::alloc::Global;
+use verdict::{Verdict, verdict};
+use x86_subset::Test;
+
+// The events that show a conjunction, where it has neither an rf atom nor a cycle.
+fn events_at(
+    alloc: Global,
+    checked: &Checked,
+    sequences: &Sequences,
+    conjunction: u32,
+) -> Result<Option<Vec<RunEvent>>, NoMemory>
+    requires same { AreOf checked.now.test sequences.now }
+    requires there { conjunction < length checked.now.test.ends }
+    ensures { IfOk result (λ found. MatchOption found (IsOrdered checked.now conjunction → HasCycle checked.now conjunction)
+        (λ events. IsShownBy checked.now conjunction events.items)) }
+{
+    let _test = checked.test();
+    if !is_ordered(checked, conjunction) {
+        return Ok(None);
+    }
+    match show(alloc, checked, sequences, conjunction)? {
+        Shown::Run(events) => Ok(Some(events)),
+        Shown::Forbidden(_) => Ok(None),
+    }
+}
+
+// The events that show the first conjunction that has neither an rf atom nor a cycle, if there is one.
+fn first_shown(
+    alloc: Global,
+    checked: &Checked,
+    sequences: &Sequences,
+) -> Result<Option<Vec<RunEvent>>, NoMemory>
+    requires { AreOf checked.now.test sequences.now }
+    ensures { IfOk result (λ found. MatchOption found (NoneIsShown checked.now (length checked.now.test.ends))
+        (λ events. IsFirstShown checked.now events.items)) }
+{
+    for c in 0..checked.test().conjunctions() {
+        if let Some(events) = events_at(alloc, checked, sequences, c as u32)? {
+            return Ok(Some(events));
+        }
+    }
+    Ok(None)
+}
+
+#[tactic(auto, unfolding(report_text::specs::Words::number_line))]
+fn undecided_text(alloc: Global, conjunction: u32) -> Result<String, NoMemory>
+    ensures { IfOk result (λ text. string_bytes text ≡ number_line (codes "Undecided") conjunction) }
+{
+    let text = format!(in alloc; "Undecided {conjunction}\n")?;
+    Ok(text)
+}
+
+fn unshown_text(alloc: Global, verdict: &Verdict) -> Result<String, NoMemory>
+    ensures { IfOk result (λ text. string_bytes text ≡ unshown_text_of verdict.now) }
+{
+    match verdict {
+        Verdict::Forbidden(cycles) => cycles_text(alloc, cycles),
+        Verdict::Open { conjunction } => undecided_text(alloc, *conjunction),
+    }
+}
+
+// The text where no run is shown.
+fn unshown(alloc: Global, checked: &Checked, sequences: &Sequences) -> Result<String, NoMemory>
+    requires same { AreOf checked.now.test sequences.now }
+    requires none { NoneIsShown checked.now (length checked.now.test.ends) }
+    ensures { IfOk result (λ text. IsShowingText checked.now.test (string_bytes text)) }
+{
+    let _test = checked.test();
+    let verdict = verdict(alloc, checked, sequences)?;
+    unshown_text(alloc, &verdict)
+}
+
+// What is shown of a test whose atoms have kinds.
+fn shown(alloc: Global, checked: &Checked) -> Result<String, NoMemory>
+    ensures { IfOk result (λ text. IsShowingText checked.now.test (string_bytes text)) }
+{
+    let sequences = Sequences::of(alloc, checked.test())?;
+    match first_shown(alloc, checked, &sequences)? {
+        Some(events) => run_text(alloc, 1, &events),
+        None => unshown(alloc, checked, &sequences),
+    }
+}
+
+/// What is shown of a test; or the refusal that is due for its atoms.
+pub fn show_on(alloc: Global, test: Test) -> Result<String, ToolStatus>
+    ensures none_due { IfOk result (λ _. option_map ToolStatus.Core (due_for_atoms (profile_of test)) ≡ None) }
+    ensures text { IfOk result (λ text. IsShowingText test (string_bytes text)) }
+    ensures err { IfErr result (λ status. (status ≡ ToolStatus.Core Status.Memory)
+        ⊎ (option_map ToolStatus.Core (due_for_atoms (profile_of test)) ≡ Some status)) }
+    ensures kind { IfErr result HasToolKind }
+{
+    let checked = check_test(alloc, test)?;
+    let text = shown(alloc, &checked)?;
+    Ok(text)
+}
