@@ -1,10 +1,9 @@
 -- A run that shows a conjunction begins runs of any number of iterations: behind it each action is done by itself.
-use Rattle.std.proofs.Common.{◌≡◌, ℕ, zero, suc, ◌+◌, ◌*◌, ◌^◌, ◌<◌, ◌≤◌, ◌==◌, Bool, true, false, cond, not, ◌||◌, Some, List, [], ◌∷◌, ◌++◌, length, map, filter, filter_map, drop, get_or, slice_get, replicate, refl, sym, ap, ◌∙◌, arith, subst, inl, inr, ◌⊎◌, append-nil, append_assoc, eq-eqb, ne_eqb, zero-mul, zero-add}
+use Rattle.std.proofs.Common.{◌≡◌, ℕ, zero, suc, ◌+◌, ◌*◌, ◌^◌, ◌<◌, ◌≤◌, ◌==◌, Bool, true, false, cond, not, ◌||◌, List, [], ◌∷◌, ◌++◌, length, filter, filter_map, drop, get_or, slice_get, replicate, refl, sym, ap, ◌∙◌, arith, subst, inl, inr, ◌⊎◌, append-nil, append_assoc, eq-eqb, ne_eqb, zero-mul, zero-add}
 use Rattle.std.proofs.lemmas.Bool.{cases_eq, true≢false}
 use Rattle.std.proofs.lemmas.List.{length-replicate}
 use Rattle.std.proofs.lemmas.List.Elements.{All-from_recursion, filter-append, filter_map-append, recursion_from_All}
 use Rattle.std.specs.List.{AllZip, AllByRecursion as Each, list_all, list_any, range_with_len}
-use Rattle.x86_subset.specs.Conjunctions.{conjunction_of}
 use Rattle.x86_subset.specs.Test.{LitmusTest, body_of, column_of, columns_of}
 use Rattle.x86_subset.specs.declared.instr.Instr.{Instr}
 use Rattle.x86_subset.specs.declared.instr.Instr.TheVariants.{Store, Load, Fence, Exchange}
