@@ -46,7 +46,8 @@ pub record IsKept (test : LitmusTest) (kinds : List AtomKind) (threads : List Pr
 
 -- the course of a run that has been begun
 abbrev pub IsCourse : CheckedTest → ℕ → Course → Type 0
-IsCourse checked c course = IsKept checked.test (kinds_in checked c) course.threads.items course.memory (map event_of course.events.items)
+IsCourse checked c course =
+    IsKept checked.test (kinds_in checked c) course.threads.items course.memory (map event_of course.events.items)
 
 -- a thread's mark behind an event of this kind, at this place
 abbrev pub mark_after : Kind → ℕ → Mark → Mark
@@ -82,13 +83,16 @@ pub record IsNext (test : LitmusTest) (kinds : List AtomKind) (marks : ℕ → M
 
 -- the event can be next in a course
 abbrev pub IsNextIn : CheckedTest → ℕ → Course → Event → Type 0
-IsNextIn checked c course e = IsNext checked.test (kinds_in checked c) (marks_of course.threads.items) (map event_of course.events.items) e
+IsNextIn checked c course e =
+    IsNext checked.test (kinds_in checked c) (marks_of course.threads.items) (map event_of course.events.items) e
 
 -- ---- what holds a thread back
 
 -- no action of a thread from one place up to another stores
 abbrev pub StoresNone : LitmusTest → ℕ → ℕ → ℕ → Type 0
-StoresNone test t from to = (i : ℕ) (a : Instr) → from ≤ i → i < to → action_at test (record { thread = t; place = i }) ≡ Some a → is_storing a ≡ false
+StoresNone test t from to =
+    (i : ℕ) (a : Instr) → from ≤ i → i < to
+    → action_at test (record { thread = t; place = i }) ≡ Some a → is_storing a ≡ false
 
 -- the first that does stands here
 pub record IsOldest (test : LitmusTest) (t from to place : ℕ) : Type 0 where
@@ -118,7 +122,9 @@ writes_early marks n asked = is_the asked.follower n && nat_le (marks asked.read
 
 -- whether an action reads or writes memory too early
 abbrev pub is_early : Instr → List Asked → (ℕ → Mark) → Node → Bool
-is_early action asked marks n = is_reading action && (list_any (reads_early marks n) asked || is_storing action && list_any (writes_early marks n) asked)
+is_early action asked marks n =
+    is_reading action
+    && (list_any (reads_early marks n) asked || is_storing action && list_any (writes_early marks n) asked)
 
 -- no write of a thread waits, or the oldest would be too early
 abbrev pub IsDrainHeld : LitmusTest → List Asked → (ℕ → Mark) → ℕ → Type 0

@@ -29,12 +29,14 @@ pub record Stands (test : LitmusTest) (n : ℕ) (s : State) (marks : ℕ → Mar
 abbrev pub wanted : LitmusTest → AtomKind → ℕ
 wanted test (Rf reader column writer place) = 0
 wanted test (Fr reader column writer) = 0
-wanted test (Exact reader column writer place) = rank_of test (location_read test reader column) (record { thread = writer; place = place })
+wanted test (Exact reader column writer place) =
+    rank_of test (location_read test reader column) (record { thread = writer; place = place })
 
 -- an event that reads for an atom reads the value that it asks for
 abbrev pub IsWanted : LitmusTest → List AtomKind → Event → Type 0
 IsWanted test kinds e =
-    (kind : AtomKind) → Contains kinds kind → is_drain e ≡ false → e.thread ≡ (asked_of test kind).reader.thread → e.place ≡ (asked_of test kind).reader.place
+    (kind : AtomKind) → Contains kinds kind → is_drain e ≡ false
+    → e.thread ≡ (asked_of test kind).reader.thread → e.place ≡ (asked_of test kind).reader.place
     → (v : ℕ) → value_read e ≡ Some v → v ≡ wanted test kind
 
 -- what thread t has done
@@ -43,7 +45,9 @@ deeds t events = filter (λ e. not (is_drain e)) (part_of t events)
 
 -- what waits in a thread's buffer is stores, no exchanges
 abbrev pub WaitsStores : LitmusTest → ℕ → Mark → Type 0
-WaitsStores test t m = (i : ℕ) (s : Slot) → m.drained ≤ i → i < m.done → slice_get (loop_of test 1 t) i ≡ Some s → is_storing s.action ≡ true → is_store s.action ≡ true
+WaitsStores test t m =
+    (i : ℕ) (s : Slot) → m.drained ≤ i → i < m.done → slice_get (loop_of test 1 t) i ≡ Some s
+    → is_storing s.action ≡ true → is_store s.action ≡ true
 
 -- events that lead on from the beginning, by how far the threads have come
 pub record Stage (test : LitmusTest) (kinds : List AtomKind) (marks : ℕ → Mark) (events : List Event) : Type 0 where
