@@ -16,6 +16,7 @@
 mod actions;
 mod crew;
 mod gate;
+mod meeting;
 mod picks;
 mod place;
 mod replaying;

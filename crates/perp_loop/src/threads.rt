@@ -7,8 +7,10 @@ ghost use Rattle.perp_loop.specs.Crews.{AreLogsOf, AreWholeFor, HasLane, AreFres
 
 use crate::crew::{Crew, logs_of};
 use crate::gate::Gate;
+use crate::meeting::meet;
 use crate::place::Place;
 use load_log::Logs;
+use std::sync::atomic::AtomicUsize;
 use std::thread;
 use std::thread::Threads;
 use tso_words::{Done, Field, Home, Words};
@@ -47,7 +49,7 @@ fn take_back_all(home: &mut Home, words: &Words, places: &mut [Place<'_>])
     }
 }
 
-/// Runs each place's walker through the lane of its number.
+/// Runs each place's walker through the lane of its number. The threads meet before that.
 fn run_places<R: Threads + Sync, G: Gate>(
     rt: &R,
     field: Field,
@@ -66,13 +68,18 @@ fn run_places<R: Threads + Sync, G: Gate>(
     lend_all(&mut home, &words, places);
     let shared = &words;
     let threads = places.len();
+    let arrived = AtomicUsize::new(0);
+    let meeting = &arrived;
     thread::for_each_mut(
         rt,
         places,
         threads,
         &|_, place: &mut Place<'_>|
             requires { HasLane shared.now place.old }
-        { place.work(shared, gate) },
+        {
+            meet(meeting, threads);
+            place.work(shared, gate)
+        },
     );
     take_back_all(&mut home, &words, places);
     words.close(home)
