@@ -4,26 +4,49 @@ use std::hint::spin_loop;
 use std::sync::atomic::{AtomicUsize, Ordering};
 use std::thread::yield_now;
 
-/// How often a thread looks for the others with no more than a pause between two looks.
-const MOST_LOOKS: u32 = 20_000;
+/// How often a thread looks for the others: for one or two milliseconds, where nothing else keeps it from running.
+const MOST_LOOKS: u32 = 5_000;
 
-/// How often it looks again, and lets another thread run between two looks.
-const MOST_YIELDS: u32 = 1_000;
+/// How many of the looks have no more than a pause behind them. The others let another thread run.
+const QUICK_LOOKS: u32 = 1_000;
 
-/// Notes that a thread has arrived, and looks for the others, so that threads that were started one after another begin at about the
-/// same time. It promises nothing: after so many looks, some milliseconds in all, the thread goes on without those that have not come.
-pub(crate) fn meet(arrived: &AtomicUsize, threads: usize) {
-    arrived.fetch_add(1, Ordering::SeqCst);
-    for _ in 0..MOST_LOOKS {
-        if arrived.load(Ordering::SeqCst) >= threads {
-            return;
+/// How many threads have come, and how many of them have seen that all have.
+#[derive(Drop)]
+pub(crate) struct Meeting {
+    threads: usize,
+    came: AtomicUsize,
+    saw: AtomicUsize,
+}
+
+impl Meeting {
+    pub(crate) fn new(threads: usize) -> Meeting {
+        Meeting {
+            threads,
+            came: AtomicUsize::new(0),
+            saw: AtomicUsize::new(0),
         }
-        spin_loop();
     }
-    for _ in 0..MOST_YIELDS {
-        if arrived.load(Ordering::SeqCst) >= threads {
-            return;
+
+    /// Lets threads that were started one after another begin at about the same time: one that has come looks for the others, and then looks
+    /// again, since it may have come while another was kept from running. It promises nothing: after so many looks a thread goes on
+    /// without the others.
+    pub(crate) fn come(&self) {
+        self.look_for_all(&self.came);
+        self.look_for_all(&self.saw);
+    }
+
+    /// Counts this thread, and looks until all are counted, but only so often.
+    fn look_for_all(&self, count: &AtomicUsize) {
+        count.fetch_add(1, Ordering::SeqCst);
+        for look in 0..MOST_LOOKS {
+            if count.load(Ordering::SeqCst) >= self.threads {
+                return;
+            }
+            if look < QUICK_LOOKS {
+                spin_loop();
+            } else {
+                yield_now();
+            }
         }
-        yield_now();
     }
 }

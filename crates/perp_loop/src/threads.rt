@@ -7,10 +7,9 @@ ghost use Rattle.perp_loop.specs.Crews.{AreLogsOf, AreWholeFor, HasLane, AreFres
 
 use crate::crew::{Crew, logs_of};
 use crate::gate::Gate;
-use crate::meeting::meet;
+use crate::meeting::Meeting;
 use crate::place::Place;
 use load_log::Logs;
-use std::sync::atomic::AtomicUsize;
 use std::thread;
 use std::thread::Threads;
 use tso_words::{Done, Field, Home, Words};
@@ -68,8 +67,8 @@ fn run_places<R: Threads + Sync, G: Gate>(
     lend_all(&mut home, &words, places);
     let shared = &words;
     let threads = places.len();
-    let arrived = AtomicUsize::new(0);
-    let meeting = &arrived;
+    let meeting = Meeting::new(threads);
+    let door = &meeting;
     thread::for_each_mut(
         rt,
         places,
@@ -77,7 +76,7 @@ fn run_places<R: Threads + Sync, G: Gate>(
         &|_, place: &mut Place<'_>|
             requires { HasLane shared.now place.old }
         {
-            meet(meeting, threads);
+            door.come();
             place.work(shared, gate)
         },
     );
