@@ -20,6 +20,7 @@ mod meeting;
 mod picks;
 mod place;
 mod replaying;
+mod resting;
 mod threads;
 mod walker;
 mod went;

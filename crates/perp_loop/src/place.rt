@@ -6,6 +6,7 @@ ghost use Rattle.perp_loop.specs.Crews.{Claims, HasLane, IsFinishedAs, IsLogOf};
 ghost use Rattle.perp_loop.specs.Walking.{IsFinished, owed};
 
 use crate::gate::Gate;
+use crate::resting::Resting;
 use crate::walker::Walker;
 use crate::went::Went;
 use load_log::Log;
@@ -73,7 +74,7 @@ impl<'a> Place<'a> {
     {
         let lane = self.lane.take().unwrap();
         let mut post = Post::new(words, lane);
-        self.walker.walk(&mut post, gate);
+        self.walker.walk(&mut post, &Resting::new(gate));
         self.lane = Some(post.lane());
     }
 
