@@ -27,9 +27,9 @@ impl Meeting {
         }
     }
 
-    /// Lets threads that were started one after another begin at about the same time: one that has come looks for the others, and then looks
-    /// again, since it may have come while another was kept from running. It promises nothing: after so many looks a thread goes on
-    /// without the others.
+    /// Lets threads that were started one after another begin at about the same time: one that has come looks for the
+    /// others, and then looks whether all have seen that, since another may have been kept from running. It promises
+    /// nothing: after so many looks a thread goes on without the others.
     pub(crate) fn come(&self) {
         self.look_for_all(&self.came);
         self.look_for_all(&self.saw);

@@ -13,7 +13,7 @@ use load_log::Log;
 use std::marker::Model;
 use tso_words::{Lane, Post, Traced, Words};
 
-/// How many words keep the walkers of neighbours in different lines of the processors' caches, also of those that fetch two at once.
+/// How many words keep the walkers of neighbours in different lines of a processor's cache, also where it fetches two.
 const WORDS_APART: usize = 16;
 
 /// A walker, and the lane with its number while that is lent. The lane's list is that of what the walker stands for.
