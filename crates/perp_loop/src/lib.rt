@@ -16,9 +16,11 @@
 mod actions;
 mod crew;
 mod gate;
+mod meeting;
 mod picks;
 mod place;
 mod replaying;
+mod resting;
 mod threads;
 mod walker;
 mod went;

@@ -6,17 +6,23 @@ ghost use Rattle.perp_loop.specs.Crews.{Claims, HasLane, IsFinishedAs, IsLogOf};
 ghost use Rattle.perp_loop.specs.Walking.{IsFinished, owed};
 
 use crate::gate::Gate;
+use crate::resting::Resting;
 use crate::walker::Walker;
 use crate::went::Went;
 use load_log::Log;
 use std::marker::Model;
 use tso_words::{Lane, Post, Traced, Words};
 
+/// How many words keep the walkers of neighbours in different lines of a processor's cache, also where it fetches two.
+const WORDS_APART: usize = 16;
+
 /// A walker, and the lane with its number while that is lent. The lane's list is that of what the walker stands for.
 #[derive(Drop)]
 pub(crate) struct Place<'a> {
     lane: Option<Lane>,
     walker: Walker<'a>,
+    // Without it each thread's writes would slow its neighbour's.
+    apart: [u64; WORDS_APART],
 }
 
 impl<'a> Model for Place<'a> {
@@ -33,7 +39,11 @@ impl<'a> Place<'a> {
     pub(crate) fn new(walker: Walker<'a>) -> Place<'a>
         ensures { result ≡ record { lane = None; walker = walker.entry } }
     {
-        Place { lane: None, walker }
+        Place {
+            lane: None,
+            walker,
+            apart: [0; WORDS_APART],
+        }
     }
 
     /// Puts the lane in.
@@ -64,7 +74,7 @@ impl<'a> Place<'a> {
     {
         let lane = self.lane.take().unwrap();
         let mut post = Post::new(words, lane);
-        self.walker.walk(&mut post, gate);
+        self.walker.walk(&mut post, &Resting::new(gate));
         self.lane = Some(post.lane());
     }
 
@@ -87,7 +97,7 @@ impl<'a> Place<'a> {
         requires { IsFinished self.walker }
         ensures { IsLogOf self.entry.walker result }
     {
-        let Place { lane, walker } = self;
+        let Place { lane, walker, .. } = self;
         drop(lane);
         walker.log()
     }

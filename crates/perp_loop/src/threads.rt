@@ -7,6 +7,7 @@ ghost use Rattle.perp_loop.specs.Crews.{AreLogsOf, AreWholeFor, HasLane, AreFres
 
 use crate::crew::{Crew, logs_of};
 use crate::gate::Gate;
+use crate::meeting::Meeting;
 use crate::place::Place;
 use load_log::Logs;
 use std::thread;
@@ -47,7 +48,7 @@ fn take_back_all(home: &mut Home, words: &Words, places: &mut [Place<'_>])
     }
 }
 
-/// Runs each place's walker through the lane of its number.
+/// Runs each place's walker through the lane of its number. The threads meet before that.
 fn run_places<R: Threads + Sync, G: Gate>(
     rt: &R,
     field: Field,
@@ -66,13 +67,18 @@ fn run_places<R: Threads + Sync, G: Gate>(
     lend_all(&mut home, &words, places);
     let shared = &words;
     let threads = places.len();
+    let meeting = Meeting::new(threads);
+    let door = &meeting;
     thread::for_each_mut(
         rt,
         places,
         threads,
         &|_, place: &mut Place<'_>|
             requires { HasLane shared.now place.old }
-        { place.work(shared, gate) },
+        {
+            door.come();
+            place.work(shared, gate)
+        },
     );
     take_back_all(&mut home, &words, places);
     words.close(home)

@@ -1,0 +1,144 @@
+"""A plain C program that runs the same loops as `perple run`, which the benchmarks stand it beside: one thread a location, each of which
+stores to its own and reads the next one's, through a store buffer of eight writes in software that drains by the same rule (a word
+of Xoshiro256++ an action, at 64 of 256), over sequentially consistent atomics, into logs. Its threads meet before their first
+iteration as those of the real program do."""
+import os
+import shutil
+import subprocess
+
+# Words: the threads, the iterations. Output: the microseconds of the threads' loops, those of all with the count of two threads'
+# frames, and the frames that hit.
+SOURCE = r"""
+#include <pthread.h>
+#include <sched.h>
+#include <stdatomic.h>
+#include <stdint.h>
+#include <stdio.h>
+#include <stdlib.h>
+#include <time.h>
+enum { MOST_THREADS = 8, MOST_ACTIONS = 16, CAPACITY = 8, RATE = 64, MOST_LOOKS = 5000, QUICK_LOOKS = 1000 };
+enum kind { STORE, LOAD };
+struct action { enum kind kind; uint32_t loc; };
+struct entry { uint64_t value; uint32_t loc; };
+struct walker {
+    _Alignas(128) uint64_t words[4];
+    struct entry buffer[CAPACITY];
+    unsigned first, count, length;
+    struct action body[MOST_ACTIONS];
+    uint64_t *log;
+};
+static _Atomic uint64_t field[16];
+static atomic_int came, saw;
+static int threads;
+static uint64_t iterations;
+static struct walker walkers[MOST_THREADS];
+
+static uint64_t rotated(uint64_t x, int by) { return x << by | x >> (64 - by); }
+
+static uint64_t next_word(uint64_t *s) {
+    uint64_t result = rotated(s[0] + s[3], 23) + s[0], t = s[1] << 17;
+    s[2] ^= s[0]; s[3] ^= s[1]; s[1] ^= s[2]; s[0] ^= s[3]; s[2] ^= t; s[3] = rotated(s[3], 45);
+    return result;
+}
+
+static void seed(uint64_t *s, uint64_t from) {
+    for (int i = 0; i < 4; i++) {
+        uint64_t z = from += 0x9e3779b97f4a7c15ull;
+        z = (z ^ z >> 30) * 0xbf58476d1ce4e5b9ull;
+        z = (z ^ z >> 27) * 0x94d049bb133111ebull;
+        s[i] = z ^ z >> 31;
+    }
+}
+
+static void look_for_all(atomic_int *count) {
+    atomic_fetch_add(count, 1);
+    for (int look = 0; look < MOST_LOOKS && atomic_load(count) < threads; look++)
+        if (look < QUICK_LOOKS) __builtin_ia32_pause(); else sched_yield();
+}
+
+static void drain(struct walker *w) {
+    struct entry *oldest = &w->buffer[w->first];
+    atomic_store(&field[oldest->loc], oldest->value);
+    w->first = (w->first + 1) % CAPACITY;
+    w->count--;
+}
+
+static uint64_t load(struct walker *w, uint32_t loc) {
+    for (unsigned k = w->count; k-- > 0;) {
+        struct entry *entry = &w->buffer[(w->first + k) % CAPACITY];
+        if (entry->loc == loc) return entry->value;
+    }
+    return atomic_load(&field[loc]);
+}
+
+static void act(struct walker *w, struct action a, uint64_t value) {
+    if (next_word(w->words) % 256 < RATE && w->count > 0) drain(w);
+    if (a.kind == LOAD) {
+        *w->log++ = load(w, a.loc);
+    } else {
+        if (w->count == CAPACITY) drain(w);
+        w->buffer[(w->first + w->count++) % CAPACITY] = (struct entry){value, a.loc};
+    }
+}
+
+static void *walk(void *it) {
+    struct walker *w = it;
+    look_for_all(&came);
+    look_for_all(&saw);
+    for (uint64_t i = 0; i < iterations; i++) {
+        if (i == 8 || i == 16 || i == 32 || i == 64) sched_yield();
+        for (unsigned p = 0; p < w->length; p++) act(w, w->body[p], i + 1);
+    }
+    while (w->count > 0) drain(w);
+    return 0;
+}
+
+static double microseconds(void) {
+    struct timespec t;
+    clock_gettime(CLOCK_MONOTONIC, &t);
+    return t.tv_sec * 1e6 + t.tv_nsec / 1e3;
+}
+
+int main(int count, char **words) {
+    uint64_t *logs[MOST_THREADS], hits = 0;
+    pthread_t made[MOST_THREADS];
+    threads = atoi(words[1]);
+    iterations = strtoull(words[2], 0, 10);
+    for (int t = 0; t < threads; t++) {
+        logs[t] = walkers[t].log = malloc(iterations * 8);
+        seed(walkers[t].words, t);
+        walkers[t].body[0] = (struct action){STORE, t};
+        walkers[t].body[1] = (struct action){LOAD, (t + 1) % threads};
+        walkers[t].length = 2;
+    }
+    double start = microseconds();
+    for (int t = 1; t < threads; t++) pthread_create(&made[t], 0, walk, &walkers[t]);
+    walk(&walkers[0]);
+    for (int t = 1; t < threads; t++) pthread_join(made[t], 0);
+    double walked = microseconds();
+    if (threads == 2 && iterations <= 10000)
+        for (uint64_t i = 0; i < iterations; i++)
+            for (uint64_t j = 0; j < iterations; j++)
+                hits += (logs[0][i] < j + 1) & (logs[1][j] < i + 1);
+    printf("%.0f %.0f %llu\n", walked - start, microseconds() - start, (unsigned long long)hits);
+    return 0;
+}
+"""
+
+
+def build(folder):
+    """The built program's path, or None where gcc is not there."""
+    if shutil.which("gcc") is None:
+        return None
+    source = os.path.join(folder, "loops.c")
+    program = os.path.join(folder, "loops")
+    with open(source, "w") as file:
+        file.write(SOURCE)
+    subprocess.run(["gcc", "-O3", "-march=x86-64-v2", "-pthread", "-o", program, source], check=True)
+    return program
+
+
+def run(program, threads, iterations):
+    """The three numbers of its output."""
+    ran = subprocess.run([program, str(threads), str(iterations)], capture_output=True, check=True)
+    return [int(word) for word in ran.stdout.split()]
