@@ -75,8 +75,20 @@ fn multiple_bits(value: u64x8, k: u64, a: u64, gap: u64, step: u64) -> u64
     )
 }
 
-/// Which lanes have the residue `a` for `k`. For a power of two, as where a location has one, two or four stores, and for values of at
-/// most 48 bits no lane is divided.
+/// Which lanes have the residue `a` for `k`, a power of two, as where a location has two or four stores: by their low digits.
+#[inline(always)]
+fn masked_bits(value: u64x8, k: u64, a: u64) -> u64
+    requires power { (j : ℕ) × (j < 64) × (k ≡ 2 ^ j) }
+    requires lanes { length value ≡ 8 }
+    ensures { result ≡ mask_l (map (λ v. v % k == a % k) value) }
+{
+    let low = k - 1;
+    (value & u64x8::splat(low))
+        .simd_eq(u64x8::splat(a & low))
+        .to_bitmask()
+}
+
+/// Which lanes have the residue `a` for another `k`. Where all values have at most 48 bits no lane is divided.
 #[inline(always)]
 fn residue_bits(value: u64x8, k: u64, a: u64, gap: u64, step: u64) -> u64
     requires some { (2 ≤ k) × (k ≤ 128) }
@@ -85,12 +97,7 @@ fn residue_bits(value: u64x8, k: u64, a: u64, gap: u64, step: u64) -> u64
     requires lanes { length value ≡ 8 }
     ensures { result ≡ mask_l (map (λ v. v % k == a % k) value) }
 {
-    if k == 1 << k.trailing_zeros() {
-        let low = k - 1;
-        (value & u64x8::splat(low))
-            .simd_eq(u64x8::splat(a & low))
-            .to_bitmask()
-    } else if less_bits(value, u64x8::splat(281474976710656)) == 255 {
+    if less_bits(value, u64x8::splat(281474976710656)) == 255 {
         multiple_bits(value, k, a, gap, step)
     } else {
         (value % u64x8::splat(k))
@@ -210,6 +217,22 @@ fn own_equal_word(values: &[u64], k: u64, a: u64, at: usize) -> u64
     )
 }
 
+/// Which of sixty-four values have the residue `a` for `k`, a power of two.
+fn masked_word(values: &[u64], k: u64, a: u64, at: usize) -> u64
+    requires power { (j : ℕ) × (j < 64) × (k ≡ 2 ^ j) }
+    requires at { at + 64 ≤ 100000 }
+    requires room { at + 64 ≤ length values.now }
+    ensures { result ≡ mask_along (λ m. slice_index values.now m % k == a % k) at 64 }
+{
+    sixty_four(
+        at,
+        |i: usize| -> u64
+            requires { ((j : ℕ) × (j < 64) × (k ≡ 2 ^ j)) × (i + 8 ≤ length values.now) }
+            ensures { result ≡ mask_along (λ m. slice_index values.entry.now m % k == a % k) i 8 }
+        { masked_bits(value_lanes(values, i), k, a) },
+    )
+}
+
 /// Which of sixty-four values have the residue `a` for `k`.
 fn residue_word(values: &[u64], k: u64, a: u64, at: usize) -> u64
     requires some { (1 ≤ k) × (k ≤ 128) }
@@ -219,6 +242,9 @@ fn residue_word(values: &[u64], k: u64, a: u64, at: usize) -> u64
 {
     if k == 1 {
         return u64::MAX;
+    }
+    if k == 1 << k.trailing_zeros() {
+        return masked_word(values, k, a, at);
     }
     let gap = k - a % k;
     let step = u64::MAX / k + 1;

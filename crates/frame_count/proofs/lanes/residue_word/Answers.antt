@@ -1,5 +1,7 @@
-use Rattle.std.proofs.Common.{◌≡◌, ℕ, ◌%◌, ◌==◌, true, slice_index, sym, ◌∙◌, arith, eq-eqb}
-use Rattle.std.proofs.lemmas.Nat.{mod_below}
+use Rattle.std.proofs.Common.{◌≡◌, ℕ, ◌%◌, ◌^◌, ◌<◌, ◌==◌, true, w64, slice_index, sym, ◌∙◌, arith, eq-eqb}
+use Rattle.std.proofs.lemmas.Nat.{mod_below, one_shl}
+use Rattle.std.proofs.lemmas.Nat.Bits.{bit_at-trailing_zeros}
+use lib.Count.{count_trailing_zeros}
 use Rattle.frame_count.proofs.Along.{along_same, along_true}
 use Rattle.frame_count.proofs.lanes.residue_word.Goals as goal
 
@@ -14,3 +16,10 @@ returns-then-k-eq1 c =
     let all = along_true c.args.at 64 in
     let same = along_same (λ m. v m % k == c.args.a % k) (λ m. true) c.args.at 64 (λ m. eq-eqb (v m % k) (c.args.a % k) (mod_one (v m) k one ∙ sym (mod_one c.args.a k one))) in
     omega arith
+
+pub masked_word-requires-clause-power : goal.masked_word-requires-clause-power
+masked_word-requires-clause-power c =
+    let k = c.args.k in
+    let digits : ℕ = count_trailing_zeros 64 k in
+    let few : digits < 64 = (bit_at-trailing_zeros w64 k (omega arith) c.ranges.k.fits).0 in
+    (digits, few, c.if-k.true ∙ one_shl digits 64 few)
