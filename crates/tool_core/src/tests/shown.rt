@@ -1,8 +1,8 @@
 // The command `show`: the run that it writes, and what it says where it writes none.
 use super::*;
 
-// Each thread reads the other's word behind a fence, and then its own: the atoms of the first reads are exact or fr atoms, and those of
-// the second are rf atoms.
+// Each thread reads the other's word behind a fence, and then its own: the atoms of the first reads are exact or fr atoms,
+// and those of the second are rf atoms.
 const TWICE: &str =
     "X86 TWICE\n{ }\n P0 | P1 ;\n MOV [x],$1 | MOV [y],$1 ;\n MFENCE | MFENCE ;\n MOV EAX,[y] | MOV EAX,[x] ;\n MOV EBX,[x] | MOV EBX,[y] ;\n";
 
@@ -79,7 +79,8 @@ fn cycles_are_shown(rt: HostRuntime) -> Result<(), Fail> {
     Ok(())
 }
 
-// The words, a test, its condition where the text has none, the number of the status, and what is written to both sinks.
+// The words, a test, its condition where the text has none, the number of the status, and what is written to both
+// sinks.
 const UNSHOWN: [(&str, &str, &str, u8, &str, &str); 7] = [
     ("show", OWN, "", 0, "Undecided 0\n", ""),
     (
