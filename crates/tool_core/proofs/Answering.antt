@@ -1,6 +1,5 @@
 -- From the answer of one layer to that of the next.
-use Rattle.std.proofs.Common.{◌≡◌, ◌⊎◌, ℕ, ◌<◌, ◌≤◌, List, length, Some, None, Result, Ok, Err, String, string_bytes, Global, IfOk, IfErr, inl, inr, refl, sym, subst}
-use Rattle.std.specs.declared.option.Option.{Option}
+use Rattle.std.proofs.Common.{◌≡◌, ◌⊎◌, ℕ, ◌≤◌, List, length, Some, None, Result, Ok, Err, String, string_bytes, Global, IfOk, IfErr, inl, inr, refl, sym, subst}
 use Rattle.x86_subset.specs.Test.{LitmusTest}
 use Rattle.tso_words.specs.Seats.{Ended as Closed}
 use Rattle.litmus_reader.specs.Answer.{Accepted}

@@ -1,29 +1,28 @@
 -- What follows from how a call ended.
-use Rattle.std.proofs.Common.{◌≡◌, ◌⊎◌, ℕ, ◌<◌, ◌≤◌, List, ◌++◌, length, take, Some, None, Result, Ok, Err, String, string_bytes, Global, IfOk, IfErr, inl, inr, refl, sym, ap, subst, ◌∙◌, arith}
+use Rattle.std.proofs.Common.{◌≡◌, ◌⊎◌, ℕ, ◌<◌, ◌≤◌, List, length, take, Some, None, Result, Ok, Err, String, string_bytes, Global, IfOk, IfErr, inl, inr, refl, sym, ap, subst, ◌∙◌, arith}
 use Rattle.std.specs.declared.option.Option.{Option}
-use Rattle.std.specs.Io.KnownBytes.{IsAtEnd}
 use Rattle.x86_subset.specs.Test.{LitmusTest}
 use Rattle.tso_words.specs.Seats.{Ended as Closed}
 use Rattle.litmus_reader.specs.Answer.{Accepted}
 use Rattle.litmus_reader.specs.Reading.{Reads}
 use Rattle.litmus_reader.proofs.ReadingLaws.{one_reading}
 use Rattle.report_text.specs.declared.status.Over.TheVariants.{Frames}
-use Rattle.report_text.specs.declared.status.Status.TheVariants.{Whole, Memory, Usage, ReadFault, WriteFault, OutsideProfile, Limit}
+use Rattle.report_text.specs.declared.status.Status.TheVariants.{Whole, Memory, Usage, WriteFault, OutsideProfile, Limit}
 use Rattle.perp_base.specs.Bytes.{IsOver}
 use Rattle.run_text.specs.Sections.{Split}
 use Rattle.program_edge.specs.View.{View}
 use Rattle.program_edge.specs.Field.{IsStill, SomeRunFits}
 use Rattle.program_edge.proofs.Bytes.{appended_is, dropped_is, given_bytes, over_is_long}
 use Rattle.tool_core.specs.Words.{command_of}
-use Rattle.tool_core.specs.Due.{IsDue, Refused, Took, all_litmus, most_bytes, parts_of}
+use Rattle.tool_core.specs.Due.{IsDue, Refused, Took, all_litmus, most_bytes}
 use Rattle.tool_core.specs.Due.Refused.{no_memory, no_command, no_reading, too_long, no_input}
 use Rattle.tool_core.specs.Texts.{options_of}
-use Rattle.tool_core.specs.Top.{Answers, AnswersDue, AnswersTooLong, Completes, Ended, HasAnswer, HasRun, IsAfterReading, IsAnswer, IsField, IsStillCommand, IsText, IsUsage, KeepsSource, Leaves, RanFor, ReadsToEnd, RunFits, SuitsCommand, Told, WritesPart, WritesWhole, WroteAsTool, iterations_run}
+use Rattle.tool_core.specs.Top.{Answers, AnswersDue, AnswersTooLong, Completes, Ended, HasRun, IsAnswer, IsField, IsStillCommand, IsText, IsUsage, KeepsSource, Leaves, RanFor, ReadsToEnd, RunFits, SuitsCommand, Told, WritesPart, WritesWhole, WroteAsTool, iterations_run}
 use Rattle.tool_core.specs.Top.Ended.{ended_refused, ended_whole, ended_part}
 use Rattle.tool_core.specs.declared.words.Command.{Command}
 use Rattle.tool_core.specs.declared.words.Command.TheVariants.{Judge, Order, Witness, Verdict, Show, Skew}
 use Rattle.tool_core.specs.declared.status.ToolStatus.{ToolStatus}
-use Rattle.tool_core.specs.declared.status.ToolStatus.TheVariants.{Core, TooLong}
+use Rattle.tool_core.specs.declared.status.ToolStatus.TheVariants.{Core}
 use Rattle.tool_core.proofs.Dues.{IsOfInput, due_for_text, of_input, one_due, test_is_due}
 
 -- a refusal or a text, and what was written of it
@@ -115,7 +114,8 @@ neither : (words : List (List ℕ)) (status : ToolStatus) → ((atom kind : ℕ)
     → (status ≡ Core (Limit Frames) → ⊥) → SuitsCommand words status
 neither words status profile frames = record { outside_profile = λ atom kind e. absurd (profile atom kind e); frames = frames }
 
-counts_atoms : (words : List (List ℕ)) (command : Command) → command_of words ≡ Some command → (command ≡ Verdict) ⊎ (command ≡ Show)
+counts_atoms : (words : List (List ℕ)) (command : Command) → command_of words ≡ Some command
+    → (command ≡ Verdict) ⊎ (command ≡ Show)
     → (command_of words ≡ Some Verdict) ⊎ (command_of words ≡ Some Show)
 counts_atoms words command is (inl verdict) = inl (is ∙ ap Some verdict)
 counts_atoms words command is (inr show) = inr (is ∙ ap Some show)

@@ -1,5 +1,5 @@
 -- Which locations have one writer.
-use Rattle.std.proofs.Common.{◌≡◌, ℕ, zero, suc, ◌+◌, ◌-◌, ◌<◌, ◌≤◌, ◌==◌, Bool, true, false, All, List, [], ◌∷◌, length, Some, None, if◌then◌else◌, option_map, refl, sym, ap, ◌∙◌, arith, nat_lt}
+use Rattle.std.proofs.Common.{◌≡◌, ℕ, zero, suc, ◌+◌, ◌-◌, ◌<◌, ◌≤◌, ◌==◌, Bool, true, false, All, List, [], ◌∷◌, length, Some, None, if◌then◌else◌, refl, sym, ap, ◌∙◌, arith, nat_lt}
 use Rattle.std.specs.declared.option.Option.{Option}
 use Rattle.std.specs.List.{list_all}
 use Rattle.std.proofs.lemmas.Bool.{and_parts, eqb-true}
@@ -9,7 +9,7 @@ use Rattle.x86_subset.specs.Test.{LitmusTest}
 use Rattle.seq_conv.specs.Sequence.{Site, stores_of}
 use Rattle.run_witness.specs.Order.{HasWriters, IsWriter}
 use Rattle.run_witness.proofs.Rights.{writers_all}
-use Rattle.tool_core.specs.Due.{due_for_writers, have_one_writer, several_from}
+use Rattle.tool_core.specs.Due.{have_one_writer, several_from}
 
 -- one location more
 step : (test : LitmusTest) (x count : ℕ) → x < count → several_from test x (count - x)

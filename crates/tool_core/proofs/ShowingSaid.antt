@@ -33,24 +33,26 @@ none_at checked c before here b (inr same) = subst (λ k. IsOrdered checked k �
 -- one conjunction more that has an rf atom or a cycle
 pub none_more : (checked : CheckedTest) (c : ℕ) → NoneIsShown checked c → (IsOrdered checked c → HasCycle checked c)
     → NoneIsShown checked (c + 1)
-none_more checked c before here b lt = none_at checked c before here b (let split : (b < c) ⊎ (b ≡ c) = grind (arith) in split)
+none_more checked c before here b lt =
+    let split : (b < c) ⊎ (b ≡ c) = grind (arith) in
+    none_at checked c before here b split
 
-showing_on : (checked : CheckedTest) (verdict : Verdict) (text : List ℕ) → NoneIsShown checked (length checked.test.ends)
-    → IsVerdict checked verdict → text ≡ unshown_text_of verdict → IsShowingOn checked text
+showing_on : (checked : CheckedTest) (verdict : Verdict) (text : List ℕ)
+    → NoneIsShown checked (length checked.test.ends) → IsVerdict checked verdict → text ≡ unshown_text_of verdict → IsShowingOn checked text
 showing_on checked (Forbidden cycles) text none is e = forbidden (map (λ cycle. cycle.items) cycles.items) is e
 showing_on checked (Open c) text none is e = undecided c is none e
 
 -- the text where no run is shown
-pub unshown_said : (checked : CheckedTest) (verdict : Verdict) (r : Result (String Global) NoMemory) → IsChecked checked
-    → NoneIsShown checked (length checked.test.ends) → IsVerdict checked verdict
+pub unshown_said : (checked : CheckedTest) (verdict : Verdict) (r : Result (String Global) NoMemory)
+    → IsChecked checked → NoneIsShown checked (length checked.test.ends) → IsVerdict checked verdict
     → IfOk r (λ t. string_bytes t ≡ unshown_text_of verdict) → IfOk r (λ t. IsShowingText checked.test (string_bytes t))
 unshown_said checked verdict (Ok t) is none right e =
     record { kinds = checked.kinds; are = is.kinds; is = showing_on checked verdict (string_bytes t) none right e }
 unshown_said checked verdict (Err e) is none right _ = tt
 
 -- the text of a run that is shown
-pub shown_said : (checked : CheckedTest) (events : List RunEvent) (r : Result (String Global) NoMemory) → IsChecked checked
-    → IsFirstShown checked events → IfOk r (λ t. string_bytes t ≡ run_text_of 1 events)
+pub shown_said : (checked : CheckedTest) (events : List RunEvent) (r : Result (String Global) NoMemory)
+    → IsChecked checked → IsFirstShown checked events → IfOk r (λ t. string_bytes t ≡ run_text_of 1 events)
     → IfOk r (λ t. IsShowingText checked.test (string_bytes t))
 shown_said checked events (Ok t) is first e = record { kinds = checked.kinds; are = is.kinds; is = run events first e }
 shown_said checked events (Err e) is first _ = tt

@@ -1,12 +1,11 @@
 -- The text of `witness` tells a run that has the logs of each run that fits.
-use Rattle.std.proofs.Common.{◌≡◌, ℕ, ◌<◌, List, [], length, sym, subst, ◌∙◌, map}
+use Rattle.std.proofs.Common.{◌≡◌, ℕ, ◌<◌, List, [], length, sym, subst, ◌∙◌}
 use Rattle.x86_subset.specs.Test.{LitmusTest}
 use Rattle.seq_conv.specs.Event.{Event}
 use Rattle.seq_conv.specs.Log.{log_of}
 use Rattle.seq_conv.specs.Run.{IsRunOf}
 use Rattle.load_log.specs.Values.{Values, log_at}
 use Rattle.tso_words.specs.Seats.{Ended as Closed}
-use Rattle.run_judge.specs.Judgement.{event_of}
 use Rattle.run_witness.specs.Order.{AreLogsFor}
 use Rattle.run_witness.specs.Order.{HasLogs as AreLogged}
 use Rattle.program_edge.specs.Field.{HasRunOn}

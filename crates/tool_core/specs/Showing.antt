@@ -1,5 +1,5 @@
--- What the command show writes: a run in which a conjunction holds, or why it gives none. Runs are those of x86-TSO (Sewell, Sarkar,
--- Owens, Zappa Nardelli and Myreen, CACM 2010); the texts are this project's own.
+-- What the command show writes: a run in which a conjunction holds, or why it gives none. Runs are those of x86-TSO
+-- (Sewell, Sarkar, Owens, Zappa Nardelli and Myreen, CACM 2010); the texts are this project's own.
 use Rattle.std.specs.Prelude.{◌≡◌, ℕ, ◌<◌, List, codes, length, map}
 use Rattle.x86_subset.specs.Test.{LitmusTest}
 use Rattle.profile_check.specs.Kinds.{AreKinds}
@@ -33,11 +33,12 @@ pub record IsFirstShown (checked : CheckedTest) (events : List RunEvent) : Type 
   pub shown : IsShownBy checked c events
   pub earlier : NoneIsShown checked c
 
--- The text tells a run that shows the first conjunction with neither an rf atom nor a cycle; or one cycle for each conjunction; or, where
--- there is neither, the first conjunction without a cycle.
+-- The text tells a run that shows the first conjunction with neither an rf atom nor a cycle; or one cycle for each
+-- conjunction; or, where there is neither, the first conjunction without a cycle.
 pub data IsShowingOn (checked : CheckedTest) (text : List ℕ) : Type 0 where
   run : (events : List RunEvent) → IsFirstShown checked events → text ≡ run_text_of 1 events → IsShowingOn checked text
-  forbidden : (cycles : List (List Node)) → AreCycles checked cycles → text ≡ forbidden_text cycles → IsShowingOn checked text
+  forbidden : (cycles : List (List Node)) → AreCycles checked cycles → text ≡ forbidden_text cycles
+      → IsShowingOn checked text
   undecided : (c : ℕ) → IsFirstOpen checked c → NoneIsShown checked (length checked.test.ends)
       → text ≡ number_line (codes "Undecided") c → IsShowingOn checked text
 

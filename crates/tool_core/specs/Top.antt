@@ -144,7 +144,8 @@ AnswersTooLong words old new status = (command : Command) (input : List ℕ)
     → Told words old command input → most_bytes < length input
     → ((status ≡ TooLong) × (new.bytes ≡ Some (drop 16777217 input))) ⊎ ((status ≡ Core Memory) ⊎ ((status ≡ Core ReadFault) × Rose old.faults new.faults))
 
--- That a test is outside the profile is answered for `verdict` and `show` alone, and the limit of frames for no command.
+-- That a test is outside the profile is answered for `verdict` and `show` alone, and the limit of frames for no
+-- command.
 pub record SuitsCommand (words : List (List ℕ)) (status : ToolStatus) : Type 0 where
   pub outside_profile : (atom kind : ℕ) → status ≡ Core (OutsideProfile atom kind)
       → (command_of words ≡ Some Verdict) ⊎ (command_of words ≡ Some Show)

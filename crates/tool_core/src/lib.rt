@@ -1,12 +1,13 @@
-//! The second program as one call over a source, two sinks and a field: it judges written runs, finds and shows runs, gives verdicts,
-//! and tells how far apart the threads of a run were.
+//! The second program as one call over a source, two sinks and a field: it judges written runs, finds and shows runs,
+//! gives verdicts, and tells how far apart the threads of a run were.
 //!
-//! The clause `whole` of [`tool`] says what stands on `out` where a command ends whole: the text that `IsText` (`specs/Top`, by the
-//! texts of `specs/Texts` and `specs/Showing`) calls right for the test and the section of the input. The cause of each status is the
-//! clause `ended`; its clauses `usage`, `due` and `too_long` say that each refusal comes exactly where it is due (`specs/Due`), and
-//! `complete` that where none is due and nothing fails the answer is whole, or memory ran out. The law `written_runs_are_legal`
-//! (`specs/Laws`) says that where a legal run of a test is written behind the test's text, no refusal is due, and `Legal` with the
-//! number of its events is the one right answer.
+//! The clause `whole` of [`tool`] says what stands on `out` where a command ends whole: the text that `IsText`
+//! (`specs/Top`, by the texts of `specs/Texts` and `specs/Showing`) calls right for the test and the section of the
+//! input. The cause of each status is the clause `ended`; its clauses `usage`, `due` and `too_long` say that each
+//! refusal comes exactly where it is due (`specs/Due`), and `complete` that where none is due and nothing fails the
+//! answer is whole, or memory ran out. The law `written_runs_are_legal` (`specs/Laws`) says that where a legal run of a
+//! test is written behind the test's text, no refusal is due, and `Legal` with the number of its events is the one
+//! right answer.
 #![tactic(auto)]
 
 mod answer;

@@ -32,7 +32,8 @@ fn events_at(
 ) -> Result<Option<Vec<RunEvent>>, NoMemory>
     requires same { AreOf checked.now.test sequences.now }
     requires there { conjunction < length checked.now.test.ends }
-    ensures { IfOk result (λ found. MatchOption found (IsOrdered checked.now conjunction → HasCycle checked.now conjunction)
+    ensures { IfOk result (λ found. MatchOption found
+        (IsOrdered checked.now conjunction → HasCycle checked.now conjunction)
         (λ events. IsShownBy checked.now conjunction events.items)) }
 {
     let _test = checked.test();

@@ -4,6 +4,8 @@ ghost use Rattle.std.specs.Io.{ReadsAtMost};
 ghost use Rattle.std.specs.Io.KnownBytes.{ReadConsumes};
 ghost use Rattle.perp_base.specs.Causes.{HasCause};
 
+mod shown;
+
 use super::*;
 use perp_base::{Failed, MemSink, MemSource, Source};
 use std::alloc::Global;

@@ -1,0 +1,146 @@
+// The command `show`: the run that it writes, and what it says where it writes none.
+use super::*;
+
+// Each thread reads the other's word behind a fence, and then its own: the atoms of the first reads are exact or fr atoms,
+// and those of the second are rf atoms.
+const TWICE: &str =
+    "X86 TWICE\n{ }\n P0 | P1 ;\n MOV [x],$1 | MOV [y],$1 ;\n MFENCE | MFENCE ;\n MOV EAX,[y] | MOV EAX,[x] ;\n MOV EBX,[x] | MOV EBX,[y] ;\n";
+
+// A test, its condition where the text has none, two lines of the run that is shown, and what `judge` says of that run.
+const SHOWN: [(&str, &str, [&str; 2], &str); 4] = [
+    (
+        SB,
+        "",
+        ["\nP0 0 1 read 0\n", "\nP1 0 1 read 0\n"],
+        "Legal 6\n",
+    ),
+    // the first conjunction has a cycle
+    (
+        EITHER,
+        "",
+        ["%events 1\n", "\nP0 0 2 read 1\n"],
+        "Legal 8\n",
+    ),
+    (
+        TWICE,
+        "exists (0:EAX=0 /\\ 1:EAX=0 \\/ 0:EAX=1 /\\ 1:EAX=1 \\/ 0:EAX=0)\n",
+        ["\nP0 0 2 read 1\n", "\nP1 0 2 read 1\n"],
+        "Legal 10\n",
+    ),
+    // the first conjunction has an rf atom
+    (
+        TWICE,
+        "exists (0:EBX=1 \\/ 0:EAX=1 /\\ 1:EAX=0 \\/ 1:EAX=1)\n",
+        ["\nP0 0 2 read 1\n", "\nP1 0 2 read 0\n"],
+        "Legal 10\n",
+    ),
+];
+
+/// What is shown is a run of the right conjunction, and `judge` finds it legal.
+#[test]
+fn shown_runs_are_legal(rt: HostRuntime) -> Result<(), Fail> {
+    let alloc = rt.alloc();
+    for (text, condition, lines, legal) in SHOWN {
+        let input = with_section(alloc, text, condition)?;
+        let shown = call(&rt, alloc, "show", &input, NEVER)?;
+        assert!(rt; shown.status.number() == 0 && shown.words == (0, 0));
+        let run = str::from_utf8(&shown.out).ok().ok_or("it is a text")?;
+        assert!(rt;
+            run.starts_with("%events 1\n"),
+            "section at {condition}{text}"
+        );
+        for line in lines {
+            assert!(rt; run.find(line).is_some(), "{line} at {condition}{text}");
+        }
+        let told = with_section(
+            alloc,
+            str::from_utf8(&input).ok().ok_or("it is a text")?,
+            run,
+        )?;
+        let judged = call(&rt, alloc, "judge", &told, NEVER)?;
+        assert_ended(&rt, &judged, text, 0, legal.as_bytes(), "");
+    }
+    Ok(())
+}
+
+/// Where each conjunction has a cycle, what is written is the verdict.
+#[test]
+fn cycles_are_shown(rt: HostRuntime) -> Result<(), Fail> {
+    let alloc = rt.alloc();
+    for text in [SBF, MP] {
+        let shown = call(&rt, alloc, "show", text.as_bytes(), NEVER)?;
+        let verdict = call(&rt, alloc, "verdict", text.as_bytes(), NEVER)?;
+        assert!(rt;
+            shown.out.starts_with(b"Forbidden\nCycle 0 "),
+            "output at {text}"
+        );
+        assert_ended(&rt, &shown, text, 0, &verdict.out, "");
+    }
+    Ok(())
+}
+
+// The words, a test, its condition where the text has none, the number of the status, and what is written to both
+// sinks.
+const UNSHOWN: [(&str, &str, &str, u8, &str, &str); 7] = [
+    ("show", OWN, "", 0, "Undecided 0\n", ""),
+    (
+        "show",
+        TWICE,
+        "exists (0:EBX=1 \\/ 0:EAX=0 /\\ 1:EAX=0)\n",
+        0,
+        "Undecided 0\n",
+        "",
+    ),
+    (
+        "show",
+        TWICE,
+        "exists (0:EAX=0 /\\ 1:EAX=0 \\/ 1:EBX=1)\n",
+        0,
+        "Undecided 1\n",
+        "",
+    ),
+    (
+        "show",
+        W2,
+        "exists (2:EAX=0)\n",
+        6,
+        "",
+        "perple: atom 1: kind 7 SeveralWriters\n",
+    ),
+    (
+        "show",
+        SB,
+        "%events 1\n",
+        5,
+        "",
+        "perple: line 7: kind 12 Trailing\n",
+    ),
+    (
+        "show x",
+        SB,
+        "",
+        2,
+        "",
+        "perple: usage: perple COMMAND [N] [OPTIONS]\n",
+    ),
+    (
+        "shows",
+        SB,
+        "",
+        2,
+        "",
+        "perple: usage: perple COMMAND [N] [OPTIONS]\n",
+    ),
+];
+
+#[test]
+fn others_are_not_shown(rt: HostRuntime) -> Result<(), Fail> {
+    let alloc = rt.alloc();
+    for (words, text, condition, status, out, err) in UNSHOWN {
+        let input = with_section(alloc, text, condition)?;
+        let called = call(&rt, alloc, words, &input, NEVER)?;
+        assert_ended(&rt, &called, text, status, out.as_bytes(), err);
+        assert!(rt; called.words == (0, 0));
+    }
+    Ok(())
+}
