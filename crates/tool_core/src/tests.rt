@@ -4,10 +4,12 @@ ghost use Rattle.std.specs.Io.{ReadsAtMost};
 ghost use Rattle.std.specs.Io.KnownBytes.{ReadConsumes};
 ghost use Rattle.perp_base.specs.Causes.{HasCause};
 
+mod rows;
 mod shown;
 
 use super::*;
 use perp_base::{Failed, MemSink, MemSource, Source};
+use rows::{JUDGED, SOUGHT};
 use std::alloc::Global;
 use std::process::Abort;
 use std::test::Fail;
@@ -37,212 +39,12 @@ const OWN: &str =
 const EITHER: &str =
     "X86 SBF\n{ }\n P0 | P1 ;\n MOV [x],$1 | MOV [y],$1 ;\n MFENCE | MFENCE ;\n MOV EAX,[y] | MOV EAX,[x] ;\nexists (0:EAX=0 /\\ 1:EAX=0 \\/ 0:EAX=1)\n";
 
-const W2: &str = "X86 W2\n{ }\n P0 | P1 | P2 ;\n MOV [x],$1 | MOV [x],$2 | MOV EAX,[x] ;\n";
+const TWO_WRITERS: &str =
+    "X86 TWO\n{ }\n P0 | P1 | P2 ;\n MOV [x],$1 | MOV [x],$2 | MOV EAX,[x] ;\n";
 
 // The stores of the second location stand in two threads, and 100,000 iterations have 1,200,000 events.
 const BUSY: &str =
     "X86 BUSY\n{ x=0; y=0; }\n P0 | P1 ;\n MOV [x],$1 | MOV EAX,[x] ;\n MOV [y],$1 | MOV [y],$2 ;\n MOV EAX,[y] | MOV EBX,[y] ;\nexists (0:EAX=0)\n";
-
-// The words, the input behind SB, the number of the status, and what is written to both sinks.
-const JUDGED: [(&str, &str, u8, &str, &str); 16] = [
-    (
-        "judge",
-        "%events 1\nP0 0 0 push\nP0 0 1 read 0\nP0 0 0 drain\nP1 0 0 push\nP1 0 1 read 1\nP1 0 0 drain\n",
-        0,
-        "Legal 6\n",
-        "",
-    ),
-    (
-        "judge",
-        "%events 1\nP0 0 0 push\nP0 0 1 read 0\nP0 0 0 drain\nP1 0 0 push\nP1 0 1 read 0\nP1 0 0 drain\n",
-        0,
-        "Wrong 5 kind 5 Value\n",
-        "",
-    ),
-    (
-        "judge",
-        "%events 1\nP0 0 0 push\nP0 0 1 read 0\nP0 0 0 drain\nP1 0 0 push\nP1 0 1 read 1\n",
-        0,
-        "Wrong 6 kind 6 Short\n",
-        "",
-    ),
-    (
-        "judge",
-        "%events 1\nP0 0 0 push\nP0 0 1 read 0\nP0 0 0 drain\nP0 0 0 drain\nP1 0 0 push\nP1 0 1 read 1\nP1 0 0 drain\n",
-        0,
-        "Wrong 4 kind 3 NotOldest\n",
-        "",
-    ),
-    ("judge", "%events 1\n", 0, "Wrong 1 kind 6 Short\n", ""),
-    (
-        "judge",
-        "%events 1\nP0 0 0 pull\n",
-        10,
-        "",
-        "perple: section line 8\n",
-    ),
-    // blanks, leading zeros and lines without words
-    (
-        "judge",
-        "\t%events  001 \r\n\n \t\nP00 0\t0  push\nP0 0 1 read 0\n\nP0 0 0 drain\nP1 0 0 push\nP1 0 1 read 1\nP1 0 0 drain",
-        0,
-        "Legal 6\n",
-        "",
-    ),
-    // the first section line begins the section, and the next line of its form is a line of it
-    (
-        "judge",
-        "%events 1\n%events 1\n",
-        10,
-        "",
-        "perple: section line 8\n",
-    ),
-    ("judge", "", 9, "", "perple: no section\n"),
-    ("judge", "%events 0\n", 9, "", "perple: no section\n"),
-    ("judge", "%events 100001\n", 9, "", "perple: no section\n"),
-    ("judge", "%events 1 1\n", 9, "", "perple: no section\n"),
-    ("judge", "%logs 1\n", 9, "", "perple: no section\n"),
-    (
-        "judge",
-        "extra\n%events 1\nP0 0 0 pull\n",
-        5,
-        "",
-        "perple: line 7: kind 12 Trailing\n",
-    ),
-    (
-        "judge 1",
-        "%events 1\n",
-        2,
-        "",
-        "perple: usage: perple COMMAND [N] [OPTIONS]\n",
-    ),
-    (
-        "pledge",
-        "%events 1\n",
-        2,
-        "",
-        "perple: usage: perple COMMAND [N] [OPTIONS]\n",
-    ),
-];
-
-// The words, a test, the section behind it, the number of the status, and what is written to both sinks. 13 comes before 12, and both
-// before 10, also where a line is bad or missing.
-const SOUGHT: [(&str, &str, &str, u8, &str, &str); 15] = [
-    (
-        "order",
-        SBF,
-        "%logs 1\nP0 0\nP1 0\n",
-        0,
-        "No order cycle\n",
-        "",
-    ),
-    (
-        "order",
-        OWN,
-        "%logs 1\nP0 0\nP1 1\n",
-        0,
-        "No order value 0 0 0\n",
-        "",
-    ),
-    (
-        "order",
-        SB,
-        "%logs 1\nP0 0\n",
-        10,
-        "",
-        "perple: section line 8\n",
-    ),
-    (
-        "order",
-        SB,
-        "%logs 1\nP0 0 0\nP1 0\n",
-        10,
-        "",
-        "perple: section line 8\n",
-    ),
-    (
-        "order",
-        SB,
-        "%logs 1\nP0 0\nP1 0\n\nP2\n",
-        10,
-        "",
-        "perple: section line 11\n",
-    ),
-    // a line of logs begins with the plain name of its thread
-    (
-        "order",
-        SB,
-        "%logs 1\nP00 0\nP1 0\n",
-        10,
-        "",
-        "perple: section line 8\n",
-    ),
-    (
-        "order",
-        SB,
-        "%logs 1\nP0 0\nP01 0\n",
-        10,
-        "",
-        "perple: section line 9\n",
-    ),
-    ("order", SB, "%events 1\n", 9, "", "perple: no section\n"),
-    (
-        "order",
-        IRIW,
-        "%logs 100000\n",
-        12,
-        "",
-        "perple: limit events 1000000\n",
-    ),
-    (
-        "order",
-        IRIW,
-        "%logs 100000\nP0 x\n",
-        12,
-        "",
-        "perple: limit events 1000000\n",
-    ),
-    (
-        "order",
-        W2,
-        "exists (2:EAX=2)\n%logs 1\nP9\n",
-        13,
-        "",
-        "perple: location 0 has several writers\n",
-    ),
-    (
-        "order",
-        BUSY,
-        "%logs 100000\nP9\n",
-        13,
-        "",
-        "perple: location 1 has several writers\n",
-    ),
-    (
-        "witness 1",
-        W2,
-        "exists (2:EAX=2)\n",
-        13,
-        "",
-        "perple: location 0 has several writers\n",
-    ),
-    (
-        "witness 100000",
-        BUSY,
-        "",
-        13,
-        "",
-        "perple: location 1 has several writers\n",
-    ),
-    (
-        "witness 100000",
-        IRIW,
-        "",
-        12,
-        "",
-        "perple: limit events 1000000\n",
-    ),
-];
 
 // The words of a line, which stand between single spaces; an empty line has none.
 fn words_of(alloc: Global, line: &str) -> Result<Vec<String>, Fail> {
@@ -366,12 +168,12 @@ fn verdicts_are_given(rt: HostRuntime) -> Result<(), Fail> {
         assert_eq!(rt; ran.status.number(), 0, "status at {text}");
         assert!(rt; ran.out.starts_with(front.as_bytes()), "output at {text}");
     }
-    let outside = with_section(alloc, W2, "exists (2:EAX=0)\n")?;
+    let outside = with_section(alloc, TWO_WRITERS, "exists (2:EAX=0)\n")?;
     let ran = call(&rt, alloc, "verdict", &outside, NEVER)?;
     assert_ended(
         &rt,
         &ran,
-        W2,
+        TWO_WRITERS,
         6,
         b"",
         "perple: atom 1: kind 7 SeveralWriters\n",
@@ -387,7 +189,7 @@ fn skews_are_told(rt: HostRuntime) -> Result<(), Fail> {
         "Skew P0 1 initial 0 least 0 greatest 0 buckets 0 0 0 0 3 0 0 0 0\nSkew P1 1 initial 0 least 0 greatest 0 buckets 0 0 0 0 3 0 0 0 0\n";
     assert_eq!(rt; ran.out.as_slice(), rows.as_bytes());
     assert!(rt; ran.status.number() == 0 && ran.words == (3, 3));
-    let none = with_section(alloc, W2, "exists (2:EAX=2)\n")?;
+    let none = with_section(alloc, TWO_WRITERS, "exists (2:EAX=2)\n")?;
     let ran = call(&rt, alloc, "skew 5", &none, NEVER)?;
     assert!(rt; ran.status.number() == 0 && ran.out.is_empty() && ran.err.is_empty());
     for line in ["skew", "skew 0", "skew 100001", "skew 3 3", "verdict 1", ""] {

@@ -101,7 +101,7 @@ const UNSHOWN: [(&str, &str, &str, u8, &str, &str); 7] = [
     ),
     (
         "show",
-        W2,
+        TWO_WRITERS,
         "exists (2:EAX=0)\n",
         6,
         "",
