@@ -123,13 +123,23 @@ fn reads_lines(rt: HostRuntime) -> Result<(), Fail> {
     Ok(())
 }
 
+/// The number of iterations behind the name that begins a line.
+fn iterations(alloc: Global, line: &str) -> Result<u32, WordsError> {
+    let Ok(words) = words_of(alloc, line) else {
+        return Err(WordsError::Memory);
+    };
+    if words.is_empty() {
+        return Err(WordsError::Usage);
+    }
+    read_iterations(alloc, &words)
+}
+
 /// A name, and behind it the number of iterations alone.
 #[test]
 fn reads_iterations(rt: HostRuntime) -> Result<(), Fail> {
     let alloc = rt.alloc();
-    for (line, iterations) in [("walk 1", 1), ("run 005", 5), ("walk 100000", 100000)] {
-        let words = words_of(alloc, line)?;
-        assert_eq!(rt; read_iterations(alloc, &words), Ok(iterations), "{line}");
+    for (line, count) in [("walk 1", 1), ("run 005", 5), ("walk 100000", 100000)] {
+        assert_eq!(rt; iterations(alloc, line), Ok(count), "{line}");
     }
     for line in [
         "walk",
@@ -141,12 +151,7 @@ fn reads_iterations(rt: HostRuntime) -> Result<(), Fail> {
         "walk -- 5",
         "walk x",
     ] {
-        let words = words_of(alloc, line)?;
-        assert_eq!(rt;
-            read_iterations(alloc, &words),
-            Err(WordsError::Usage),
-            "{line}"
-        );
+        assert_eq!(rt; iterations(alloc, line), Err(WordsError::Usage), "{line}");
     }
     Ok(())
 }
