@@ -66,7 +66,8 @@ def peak(words, text, program=PERPLE):
     with tempfile.TemporaryFile() as file:
         file.write(text)
         file.seek(0)
-        child = subprocess.Popen([program] + [str(word) for word in words], stdin=file, stdout=subprocess.DEVNULL)
+        child = subprocess.Popen([program] + [str(word) for word in words], stdin=file, stdout=subprocess.DEVNULL,
+                                 stderr=subprocess.DEVNULL)
         most = 0
         while child.poll() is None:
             try:
