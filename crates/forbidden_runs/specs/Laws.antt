@@ -14,7 +14,7 @@ use Rattle.tso_runs.specs.declared.schedule.Schedule.{Schedule}
 use Rattle.command_words.specs.Job.{Asked as Job}
 use Rattle.command_words.specs.Words.{command_of}
 use Rattle.command_words.specs.declared.job.Command.TheVariants.{Run, Replay}
-use Rattle.program_edge.specs.View.{View}
+use Rattle.perp_base.specs.View.{View}
 use Rattle.report_text.specs.declared.status.Status.{Status}
 use Rattle.report_text.specs.declared.status.Status.TheVariants.{Whole, WriteFault}
 use Rattle.perple_core.specs.Texts.{kinds_of, text_of}

@@ -64,9 +64,7 @@ impl MemSink {
 }
 
 impl Sink for MemSink {
-    ghost written = { λ sink. Some sink.written };
-
-    ghost faults = { λ sink. sink.faults };
+    ghost seen = { λ sink. record { bytes = Some sink.written; faults = sink.faults } };
 
     fn write(&mut self, bytes: &[u8]) -> Result<usize, Failed>
         requires { 0 < length bytes.now }

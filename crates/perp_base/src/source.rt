@@ -1,10 +1,10 @@
 // A source of bytes that counts its faults, and the reading of a whole input.
-ghost use Rattle.std.specs.Prelude.{◌≡◌, ◌<◌, ◌≤◌, ◌+◌, List, ℕ, length, vec_len, IfOk, OnErr, IfSome, IsErr, IsErrOf};
+ghost use Rattle.std.specs.Prelude.{◌≡◌, ◌<◌, ◌≤◌, ◌+◌, length, vec_len, IfOk, OnErr, IfSome, IsErr, IsErrOf};
 ghost use Rattle.std.specs.Io.{ReadsAtMost};
 ghost use Rattle.std.specs.Io.KnownBytes.{ReadConsumes};
-ghost use Rattle.std.specs.declared.option.Option.{Option};
 ghost use Rattle.perp_base.specs.Causes.{Rose, HasCause};
 ghost use Rattle.perp_base.specs.Bytes.{GaveAll, GaveAtMost, IsOver};
+ghost use Rattle.perp_base.specs.View.{View};
 ghost use Rattle.perp_base.specs.declared.source.ReadError.TheVariants.{Memory};
 
 use crate::Failed;
@@ -12,18 +12,16 @@ use std::alloc::{AllocError, Global};
 
 /// Where bytes come from. A source may tell contracts which bytes it has left, and then tells them after each call too.
 pub trait Source {
-    /// The bytes that reads will give from here on, where the source tells them.
-    ghost left: { Self → Option (List ℕ) };
-
-    /// How often a read has failed. The count stands still at the last value of its type.
-    ghost faults: { Self → ℕ };
+    /// The bytes that reads will give from here on, where the source tells them, and how often a read has failed. The count stands still at
+    /// the last value of its type.
+    ghost seen: { Self → View };
 
     /// Puts the next bytes at the front of `buf`, and says how many. `Ok(0)` is the end of the input.
     fn read(&mut self, buf: &mut [u8]) -> Result<usize, Failed>
         requires { 0 < length buf.old }
         ensures bound { ReadsAtMost result buf.new }
-        ensures bytes { ReadConsumes (left self.old) (left self.new) result buf.new }
-        ensures cause { HasCause (faults self.old) (faults self.new) result };
+        ensures bytes { ReadConsumes (seen self.old).bytes (seen self.new).bytes result buf.new }
+        ensures cause { HasCause (seen self.old).faults (seen self.new).faults result };
 }
 
 /// Why an input was not read whole.
@@ -55,16 +53,16 @@ pub fn read_input<S: Source>(
     source: &mut S,
     limit: usize,
 ) -> Result<Vec<u8>, ReadError>
-    ensures whole { IfOk result (λ bytes. GaveAll (S.left source.old) (S.left source.new) bytes.items) }
+    ensures whole { IfOk result (λ bytes. GaveAll (S.seen source.old).bytes (S.seen source.new).bytes bytes.items) }
     ensures within { IfOk result (λ bytes. vec_len bytes ≤ limit) }
 
     // `TooLong` comes exactly where more than `limit` bytes were left, and yields only to the two other errors.
-    ensures too_long { IsErrOf result ReadError.TooLong → IsOver (S.left source.old) (S.left source.new) limit }
-    ensures long { IfSome (S.left source.old) (λ left. limit < length left → IsErr result) }
+    ensures too_long { IsErrOf result ReadError.TooLong → IsOver (S.seen source.old).bytes (S.seen source.new).bytes limit }
+    ensures long { IfSome (S.seen source.old).bytes (λ left. limit < length left → IsErr result) }
 
-    ensures fault { IsErrOf result ReadError.Fault → Rose (S.faults source.old) (S.faults source.new) }
-    ensures later { S.faults source.old ≤ S.faults source.new }
-    ensures taken { GaveAtMost (S.left source.old) (S.left source.new) (limit + 1) }
+    ensures fault { IsErrOf result ReadError.Fault → Rose (S.seen source.old).faults (S.seen source.new).faults }
+    ensures later { (S.seen source.old).faults ≤ (S.seen source.new).faults }
+    ensures taken { GaveAtMost (S.seen source.old).bytes (S.seen source.new).bytes (limit + 1) }
 {
     let mut bytes = Vec::new(alloc);
     let mut piece = [0u8; PIECE];

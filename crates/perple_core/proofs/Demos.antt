@@ -18,7 +18,7 @@ use Rattle.perple_core.specs.Due.{IsDue, due_for_profile, has_too_many_frames}
 use Rattle.perple_core.specs.Top.{DemoCompletes, Ended}
 use Rattle.perple_core.proofs.Endings.{completes_of}
 use Rattle.tso_words.specs.Seats.{Ended as Closed}
-use Rattle.program_edge.specs.View.{View}
+use Rattle.perp_base.specs.View.{View}
 use Rattle.perple_core.specs.Texts.{frame_count_of}
 
 few_is_not_more : (a b : ℕ) → b ≤ a → nat_lt a b ≡ false

@@ -16,7 +16,7 @@ use Rattle.profile_check.specs.Profile.{Profile, inside, outside, profile_of}
 use Rattle.profile_check.specs.Kinds.{kind_number as profile_number}
 use Rattle.command_words.specs.Words.{command_of}
 use Rattle.demo_text.specs.Demo.{demo_text_of}
-use Rattle.program_edge.specs.View.{View}
+use Rattle.perp_base.specs.View.{View}
 use Rattle.program_edge.proofs.Bytes.{appended_is, dropped_is, given_bytes, over_is_long}
 use Rattle.program_edge.specs.Form.{over_of}
 use Rattle.program_edge.specs.Field.{IsStill}

@@ -12,10 +12,11 @@ use Rattle.command_words.specs.Job.{Asked as Job}
 use Rattle.report_text.specs.declared.status.Status.{Status}
 use Rattle.report_text.specs.declared.status.Status.TheVariants.{Whole, WriteFault}
 use Rattle.perple_core.specs.Texts.{text_of}
-use Rattle.program_edge.specs.View.{View}
+use Rattle.perp_base.specs.View.{View}
 use Rattle.program_edge.specs.Field.{SomeRunFits}
 use Rattle.perple_core.specs.Top.Ended.{ended_refused, ended_whole, ended_part}
-use Rattle.perple_core.specs.Top.{Ended, HasAnswer, HasRun, IsRun, IsTextOfRun, RunFits, RunReads, RunText}
+use Rattle.perple_core.specs.Headline.{HasRun, IsRun, RunFits, RunReads, RunText}
+use Rattle.perple_core.specs.Top.{Ended, HasAnswer, IsTextOfRun}
 use Rattle.perple_core.proofs.Accepting.{none_due_has_kinds}
 use Rattle.perple_core.proofs.Endings.{accepts_text, whole_of, part_of, refused_is_no_text}
 

@@ -5,7 +5,7 @@ use Rattle.report_text.specs.declared.status.Status.TheVariants.{Memory}
 use Rattle.x86_subset.specs.Test.{LitmusTest}
 use Rattle.tso_words.specs.Seats.{Ended as Closed}
 use Rattle.command_words.specs.Words.{command_of}
-use Rattle.program_edge.specs.View.{View}
+use Rattle.perp_base.specs.View.{View}
 use Rattle.program_edge.specs.Field.{IsStill}
 use Rattle.program_edge.specs.Form.{IsUnread, due_for_atoms, due_for_form}
 use Rattle.litmus_reader.specs.Answer.{Answer, Accepted, Refused as Unread, Over as TooLarge}

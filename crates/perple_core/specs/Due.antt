@@ -15,7 +15,7 @@ use Rattle.report_text.specs.declared.status.Status.TheVariants.{Memory, Usage, 
 use Rattle.perp_base.specs.Bytes.{GaveAll, IsOver}
 use Rattle.perp_base.specs.Causes.{Rose}
 use Rattle.perple_core.specs.Texts.{asks_exhaustive, demo_options_of, frame_count_of, most_frames}
-use Rattle.program_edge.specs.View.{View}
+use Rattle.perp_base.specs.View.{View}
 use Rattle.program_edge.specs.Form.{due_for_atoms, due_for_form}
 
 -- the demo's number

@@ -1,6 +1,6 @@
 -- What the top call promises. The runs are those of x86-TSO (Sewell, Sarkar, Owens, Zappa Nardelli and Myreen, CACM 2010), and the
 -- counts are PerpLE's (Melissaris, Markakis, Shaw and Martonosi, MICRO 2020); statuses and texts are this project's own.
-use Rattle.std.specs.Prelude.{◌≡◌, ◌⊎◌, ℕ, ◌<◌, All, List, [], ◌++◌, length, take, drop, Some, None, MatchOption}
+use Rattle.std.specs.Prelude.{◌≡◌, ◌⊎◌, ℕ, ◌<◌, All, List, ◌++◌, length, take, drop, Some, None, MatchOption}
 use Rattle.std.specs.Io.KnownBytes.{Appends, IsAtEnd}
 use Rattle.std.specs.Str.{IsAscii}
 use Rattle.x86_subset.specs.Test.{LitmusTest}
@@ -13,7 +13,6 @@ use Rattle.tso_runs.specs.Fits.{Fits}
 use Rattle.tso_runs.specs.Schedule.{IsScheduled}
 use Rattle.litmus_reader.specs.Answer.{Accepted}
 use Rattle.litmus_reader.specs.Reading.{Reads}
-use Rattle.profile_check.specs.Kinds.{AreKinds}
 use Rattle.command_words.specs.Words.{command_of}
 use Rattle.command_words.specs.Job.{Asked as Job}
 use Rattle.command_words.specs.declared.job.Command.{Command}
@@ -24,9 +23,9 @@ use Rattle.report_text.specs.declared.status.Status.TheVariants.{Whole, Memory, 
 use Rattle.report_text.specs.declared.status.Over.TheVariants.{Input, Threads, Locations, Instructions, Atoms, Frames}
 use Rattle.perp_base.specs.Bytes.{AppendsPart}
 use Rattle.perp_base.specs.Causes.{Rose}
-use Rattle.program_edge.specs.View.{View}
+use Rattle.perp_base.specs.View.{View}
 use Rattle.program_edge.specs.Field.{IsStill, SomeRunFits}
-use Rattle.perple_core.specs.Texts.{kinds_of, text_of, conversion_text_of, demo_report_of, demo_options_of, schedule_of}
+use Rattle.perple_core.specs.Texts.{text_of, conversion_text_of, demo_report_of, demo_options_of, schedule_of}
 use Rattle.perple_core.specs.Due.{Took, Refused, IsDue, IsShort, due_for_reading, demo_number}
 
 -- the words are those of a demo
@@ -124,33 +123,6 @@ DemoCompletes words out_old out_new status = (k : ℕ)
 pub record IsUsage (words : List (List ℕ)) (status : Status) : Type 0 where
   pub only : status ≡ Usage → command_of words ≡ None
   pub each : command_of words ≡ None → (status ≡ Usage) ⊎ (status ≡ Memory)
-
--- the words are those of a run of this job, and these are the bytes that the source had left
-pub record IsRun (words : List (List ℕ)) (old : View) (job : Job) (bytes : List ℕ) : Type 0 where
-  pub command_is : command_of words ≡ Some (Run job)
-  pub told : old.bytes ≡ Some bytes
-
--- the statuses behind which a whole run stands
-abbrev pub HasRun : Status → Type 0
-HasRun status = (status ≡ Whole) ⊎ (status ≡ WriteFault)
-
--- Headline, first part: the bytes of a run read as a test, all of whose atoms are rf, exact or fr.
-abbrev pub RunReads : List (List ℕ) → View → Status → Type 0
-RunReads words old status = (job : Job) (bytes : List ℕ) → IsRun words old job bytes → HasRun status
-    → (test : LitmusTest) × Reads bytes (Accepted test) × AreKinds test (kinds_of test)
-
--- Headline, second part: what the threads did on the field is what some legal run of x86-TSO does, in which each thread performs its
--- body as often as the words ask; it ends with the field's words.
-abbrev pub RunFits : List (List ℕ) → View → Closed → Status → Type 0
-RunFits words old done status = (job : Job) (bytes : List ℕ) (test : LitmusTest) → IsRun words old job bytes → HasRun status
-    → Reads bytes (Accepted test) → SomeRunFits test job.options done
-
--- Headline, third part: for every such run, its text stands on `out` (with a fault of writing, a part of it).
-abbrev pub RunText : List (List ℕ) → View → Closed → View → View → Status → Type 0
-RunText words old done out_old out_new status = (job : Job) (bytes before : List ℕ) (test : LitmusTest) (run : List Event)
-    → IsRun words old job bytes → out_old.bytes ≡ Some before → Reads bytes (Accepted test) → Fits test job.options done.lists run
-    → (status ≡ Whole → out_new.bytes ≡ Some (before ++ text_of test job run))
-    × (status ≡ WriteFault → (n : ℕ) × (n < length (text_of test job run)) × (out_new.bytes ≡ Some (before ++ take n (text_of test job run))))
 
 -- the statuses before which the input was read to its end
 abbrev pub IsAfterReading : Status → Type 0

@@ -1,10 +1,10 @@
 //! The answer to the words and the input, before anything is written: a text or a refusal, and the closed field.
-ghost use Rattle.std.specs.Prelude.{◌≡◌, ◌⊎◌, map, IfOk, IfErr, OnErr, string_bytes, None};
+ghost use Rattle.std.specs.Prelude.{◌≡◌, ◌⊎◌, IfOk, IfErr, OnErr, string_bytes, None};
 ghost use Rattle.command_words.specs.Words.{command_of};
 ghost use Rattle.litmus_reader.specs.Answer.{Accepted};
 ghost use Rattle.report_text.specs.Status.{HasKind};
-ghost use Rattle.program_edge.specs.View.{seen};
 ghost use Rattle.program_edge.specs.Field.{IsStill};
+ghost use Rattle.program_edge.specs.View.{bytes_of};
 ghost use Rattle.perple_core.specs.Due.{Refused, due_for_reading};
 ghost use Rattle.perple_core.specs.Top.{IsDemo, IsNamedInAscii, IsText, Answers, RanFor, IsStillOrRan};
 
@@ -34,12 +34,12 @@ pub fn answer<R: Threads + Sync, S: Source, G: Gate>(
     gate: &G,
 ) -> Answered
     ensures identity { result.done.identity ≡ field }
-    ensures ok { IfOk result.text (λ text. Answers (map string_bytes words.now) (seen S.left S.faults source.old) (seen S.left S.faults source.new) result.done (string_bytes text)) }
-    ensures err { IfErr result.text (Refused (map string_bytes words.now) (seen S.left S.faults source.old) (seen S.left S.faults source.new)) }
-    ensures done { IfErr result.text (IsStillOrRan (map string_bytes words.now) (seen S.left S.faults source.old) (seen S.left S.faults source.new) result.done) }
+    ensures ok { IfOk result.text (λ text. Answers (bytes_of words.now) (S.seen source.old) (S.seen source.new) result.done (string_bytes text)) }
+    ensures err { IfErr result.text (Refused (bytes_of words.now) (S.seen source.old) (S.seen source.new)) }
+    ensures done { IfErr result.text (IsStillOrRan (bytes_of words.now) (S.seen source.old) (S.seen source.new) result.done) }
     ensures kind { IfErr result.text HasKind }
-    ensures demo { IsDemo (map string_bytes words.now) → source.new ≡ source.old }
-    ensures misused { command_of (map string_bytes words.now) ≡ None → source.new ≡ source.old }
+    ensures demo { IsDemo (bytes_of words.now) → source.new ≡ source.old }
+    ensures misused { command_of (bytes_of words.now) ≡ None → source.new ≡ source.old }
 {
     match ask(alloc, words, source) {
         Err(status) => Answered {

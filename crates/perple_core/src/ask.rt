@@ -1,12 +1,12 @@
 //! All that comes before a run: the words, the input, the reading of the text and its checks.
-ghost use Rattle.std.specs.Prelude.{◌≡◌, ◌≤◌, ◌⊎◌, ◌&&◌, ◌^◌, length, map, nat_lt, None, Some, IsSome, IfOk, IfErr, string_bytes};
+ghost use Rattle.std.specs.Prelude.{◌≡◌, ◌≤◌, ◌⊎◌, ◌&&◌, ◌^◌, length, nat_lt, None, Some, IsSome, IfOk, IfErr};
 ghost use Rattle.command_words.specs.Words.{command_of};
 ghost use Rattle.demo_text.specs.Demo.{demo_text_of};
 ghost use Rattle.litmus_reader.specs.Answer.{Accepted};
 ghost use Rattle.litmus_reader.specs.Reading.{Reads};
 ghost use Rattle.report_text.specs.Status.{HasKind};
+ghost use Rattle.program_edge.specs.View.{bytes_of};
 ghost use Rattle.perple_core.specs.Texts.{asks_exhaustive, frame_count_of, most_frames};
-ghost use Rattle.program_edge.specs.View.{seen};
 ghost use Rattle.perple_core.specs.Due.{IsDue, IsShort, demo_number, due_for_reading, has_too_many_frames, Takes, Refused, IsInputRefusal};
 ghost use Rattle.perple_core.specs.Top.{Accepts, IsDemo, IsNamedInAscii};
 
@@ -91,9 +91,9 @@ fn demo_input(alloc: Global, k: u64) -> Result<Vec<u8>, NoMemory>
 }
 
 fn input_of<S: Source>(alloc: Global, command: &Command, source: &mut S) -> Result<Vec<u8>, Status>
-    ensures ok { IfOk result (λ bytes. Takes command.now (seen S.left S.faults source.old) (seen S.left S.faults source.new) bytes.items) }
+    ensures ok { IfOk result (λ bytes. Takes command.now (S.seen source.old) (S.seen source.new) bytes.items) }
     ensures short { IfOk result (λ bytes. length bytes.items ≤ 65536) }
-    ensures err { IfErr result (IsInputRefusal command.now (seen S.left S.faults source.old) (seen S.left S.faults source.new)) }
+    ensures err { IfErr result (IsInputRefusal command.now (S.seen source.old) (S.seen source.new)) }
     ensures kind { IfErr result HasKind }
     ensures demo { IsSome (demo_number command.now) → source.new ≡ source.old }
 {
@@ -113,12 +113,12 @@ fn input_of<S: Source>(alloc: Global, command: &Command, source: &mut S) -> Resu
 
 /// The command of the words, and the test of its text; or the refusal that is due.
 pub fn ask<S: Source>(alloc: Global, words: &[String], source: &mut S) -> Result<Asked, Status>
-    ensures ok { IfOk result (λ asked. Accepts (map string_bytes words.now) (seen S.left S.faults source.old) (seen S.left S.faults source.new) asked.command asked.checked.test) }
-    ensures err { IfErr result (Refused (map string_bytes words.now) (seen S.left S.faults source.old) (seen S.left S.faults source.new)) }
+    ensures ok { IfOk result (λ asked. Accepts (bytes_of words.now) (S.seen source.old) (S.seen source.new) asked.command asked.checked.test) }
+    ensures err { IfErr result (Refused (bytes_of words.now) (S.seen source.old) (S.seen source.new)) }
     ensures kind { IfErr result HasKind }
     ensures ascii { IfOk result (λ asked. IsNamedInAscii asked.checked.test) }
-    ensures demo { IsDemo (map string_bytes words.now) → source.new ≡ source.old }
-    ensures misused { command_of (map string_bytes words.now) ≡ None → source.new ≡ source.old }
+    ensures demo { IsDemo (bytes_of words.now) → source.new ≡ source.old }
+    ensures misused { command_of (bytes_of words.now) ≡ None → source.new ≡ source.old }
 {
     let command = match read_words(alloc, words) {
         Ok(command) => command,

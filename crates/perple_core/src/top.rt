@@ -1,9 +1,10 @@
 //! The top call.
-ghost use Rattle.std.specs.Prelude.{◌≡◌, map, string_bytes, None};
+ghost use Rattle.std.specs.Prelude.{◌≡◌, None};
 ghost use Rattle.command_words.specs.Words.{command_of};
 ghost use Rattle.report_text.specs.Status.{line_of};
-ghost use Rattle.program_edge.specs.View.{seen, Wrote};
-ghost use Rattle.perple_core.specs.Top.{IsDemo, Ended, Completes, DemoCompletes, IsUsage, RunReads, RunFits, RunText, WritesWhole, WritesPart, ReadsToEnd, AnswersDue, AnswersTooLong, IsField};
+ghost use Rattle.program_edge.specs.View.{bytes_of, Wrote};
+ghost use Rattle.perple_core.specs.Headline.{RunReads, RunFits, RunText};
+ghost use Rattle.perple_core.specs.Top.{IsDemo, Ended, Completes, DemoCompletes, IsUsage, WritesWhole, WritesPart, ReadsToEnd, AnswersDue, AnswersTooLong, IsField};
 
 use crate::answer::{Answered, answer};
 use crate::deliver::deliver;
@@ -37,34 +38,34 @@ pub fn perple<R: Threads + Sync, S: Source, O: Sink, E: Sink, G: Gate>(
     gate: &G,
 ) -> Outcome
     // The headline, for `run`: what was read, what the threads did on the field, and what was written.
-    ensures reads { RunReads (map string_bytes words.now) (seen S.left S.faults source.old) result.status }
-    ensures fits { RunFits (map string_bytes words.now) (seen S.left S.faults source.old) result.done result.status }
-    ensures text { RunText (map string_bytes words.now) (seen S.left S.faults source.old) result.done
-        (seen O.written O.faults out.old) (seen O.written O.faults out.new) result.status }
+    ensures reads { RunReads (bytes_of words.now) (S.seen source.old) result.status }
+    ensures fits { RunFits (bytes_of words.now) (S.seen source.old) result.done result.status }
+    ensures text { RunText (bytes_of words.now) (S.seen source.old) result.done
+        (O.seen out.old) (O.seen out.new) result.status }
     ensures identity { result.done.identity ≡ field }
 
     // Each status has its cause, and what it leaves on `out` and on the field.
-    ensures ended { Ended (map string_bytes words.now) (seen S.left S.faults source.old) (seen S.left S.faults source.new) result.done
-        (seen O.written O.faults out.old) (seen O.written O.faults out.new) (out.new ≡ out.old) result.status }
-    ensures usage { IsUsage (map string_bytes words.now) result.status }
-    ensures due { AnswersDue (map string_bytes words.now) (seen S.left S.faults source.old) (seen S.left S.faults source.new) result.status }
-    ensures too_long { AnswersTooLong (map string_bytes words.now) (seen S.left S.faults source.old) (seen S.left S.faults source.new) result.status }
-    ensures complete { Completes (map string_bytes words.now) (seen S.left S.faults source.old) (seen S.left S.faults source.new)
-        (seen O.written O.faults out.old) (seen O.written O.faults out.new) result.status }
-    ensures demo_complete { DemoCompletes (map string_bytes words.now) (seen O.written O.faults out.old) (seen O.written O.faults out.new) result.status }
+    ensures ended { Ended (bytes_of words.now) (S.seen source.old) (S.seen source.new) result.done
+        (O.seen out.old) (O.seen out.new) (out.new ≡ out.old) result.status }
+    ensures usage { IsUsage (bytes_of words.now) result.status }
+    ensures due { AnswersDue (bytes_of words.now) (S.seen source.old) (S.seen source.new) result.status }
+    ensures too_long { AnswersTooLong (bytes_of words.now) (S.seen source.old) (S.seen source.new) result.status }
+    ensures complete { Completes (bytes_of words.now) (S.seen source.old) (S.seen source.new)
+        (O.seen out.old) (O.seen out.new) result.status }
+    ensures demo_complete { DemoCompletes (bytes_of words.now) (O.seen out.old) (O.seen out.new) result.status }
 
     // What every command leaves: the source, the field, `out` and `err`.
-    ensures read { ReadsToEnd (map string_bytes words.now) (seen S.left S.faults source.new) result.status }
-    ensures demo { IsDemo (map string_bytes words.now) → source.new ≡ source.old }
-    ensures misused { command_of (map string_bytes words.now) ≡ None → source.new ≡ source.old }
-    ensures field { IsField (map string_bytes words.now) result.done result.status }
-    ensures whole { WritesWhole (map string_bytes words.now) (seen S.left S.faults source.old) result.done
-        (seen O.written O.faults out.old) (seen O.written O.faults out.new) result.status }
-    ensures part { WritesPart (map string_bytes words.now) (seen S.left S.faults source.old) result.done
-        (seen O.written O.faults out.old) (seen O.written O.faults out.new) result.status }
+    ensures read { ReadsToEnd (bytes_of words.now) (S.seen source.new) result.status }
+    ensures demo { IsDemo (bytes_of words.now) → source.new ≡ source.old }
+    ensures misused { command_of (bytes_of words.now) ≡ None → source.new ≡ source.old }
+    ensures field { IsField (bytes_of words.now) result.done result.status }
+    ensures whole { WritesWhole (bytes_of words.now) (S.seen source.old) result.done
+        (O.seen out.old) (O.seen out.new) result.status }
+    ensures part { WritesPart (bytes_of words.now) (S.seen source.old) result.done
+        (O.seen out.old) (O.seen out.new) result.status }
 
     // The line of the status, which is empty for the whole answer.
-    ensures line { Wrote (seen E.written E.faults err.old) (seen E.written E.faults err.new) (line_of result.status) }
+    ensures line { Wrote (E.seen err.old) (E.seen err.new) (line_of result.status) }
 {
     let Answered { text, done } = answer(rt, alloc, words, source, field, gate);
     let status = deliver(&text, out);

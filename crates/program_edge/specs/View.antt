@@ -1,18 +1,15 @@
--- What is seen of a source or a sink: its bytes, where they are told, and its count of faults.
-use Rattle.std.specs.Prelude.{◌≡◌, ℕ, List, ◌⊎◌}
-use Rattle.std.specs.declared.option.Option.{Option}
+-- What a call is given and what it writes, as contracts see it. This project's own.
+use Rattle.std.specs.Prelude.{◌≡◌, ◌⊎◌, ℕ, List, String, map, string_bytes}
 use Rattle.std.specs.Io.KnownBytes.{Appends}
 use Rattle.perp_base.specs.Causes.{Rose}
 use Rattle.perp_base.specs.Bytes.{AppendsPart}
+use Rattle.perp_base.specs.View.{View}
 use Rattle.report_text.specs.declared.status.Status.{Status}
 use Rattle.report_text.specs.declared.status.Status.TheVariants.{Whole, WriteFault}
 
-pub record View : Type 0 where
-  pub bytes : Option (List ℕ)
-  pub faults : ℕ
-
-abbrev pub seen : {X : Type 0} → (X → Option (List ℕ)) → (X → ℕ) → X → View
-seen told faults x = record { bytes = told x; faults = faults x }
+-- the words of a command line, as lists of bytes
+abbrev pub bytes_of : {A : Type 0} → List (String A) → List (List ℕ)
+bytes_of words = map string_bytes words
 
 -- all of the bytes came onto the sink, or its count of faults rose and a part of them did
 abbrev pub Wrote : View → View → List ℕ → Type 0

@@ -1,6 +1,6 @@
 //! An answer is written: its text, and the line of its status.
 ghost use Rattle.report_text.specs.Status.{HasKind};
-ghost use Rattle.program_edge.specs.View.{seen, Wrote, WroteAs};
+ghost use Rattle.program_edge.specs.View.{Wrote, WroteAs};
 
 use perp_base::{Sink, write_whole};
 use report_text::Status;
@@ -8,7 +8,7 @@ use report_text::Status;
 /// Writes the text of an answer to `out`.
 pub fn put_text<O: Sink>(text: &str, out: &mut O) -> Status
     ensures kind { HasKind result }
-    ensures wrote { WroteAs result (seen O.written O.faults out.old) (seen O.written O.faults out.new) text.now }
+    ensures wrote { WroteAs result (O.seen out.old) (O.seen out.new) text.now }
 {
     match write_whole(out, text.as_bytes()) {
         Ok(()) => Status::Whole,
@@ -18,7 +18,7 @@ pub fn put_text<O: Sink>(text: &str, out: &mut O) -> Status
 
 /// Writes a line to `err`. A fault of `err` changes nothing else.
 pub fn put_line<E: Sink>(line: &[u8], err: &mut E)
-    ensures { Wrote (seen E.written E.faults err.old) (seen E.written E.faults err.new) line.now }
+    ensures { Wrote (E.seen err.old) (E.seen err.new) line.now }
 {
     let _ = write_whole(err, line);
 }

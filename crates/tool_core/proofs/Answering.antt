@@ -9,7 +9,7 @@ use Rattle.report_text.specs.declared.status.Status.TheVariants.{Memory}
 use Rattle.run_text.specs.Sections.{Split}
 use Rattle.program_edge.specs.Field.{IsStill}
 use Rattle.program_edge.specs.Form.{IsUnread}
-use Rattle.program_edge.specs.View.{View}
+use Rattle.perp_base.specs.View.{View}
 use Rattle.tool_core.specs.Words.{command_of}
 use Rattle.tool_core.specs.Due.{IsDue, IsInputRefusal, Refused, Took, due_for_test, parts_of}
 use Rattle.tool_core.specs.Due.IsInputRefusal.{no_memory as input_memory, no_reading as input_reading, too_long as input_long}

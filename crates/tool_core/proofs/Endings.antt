@@ -10,7 +10,7 @@ use Rattle.report_text.specs.declared.status.Over.TheVariants.{Frames}
 use Rattle.report_text.specs.declared.status.Status.TheVariants.{Whole, Memory, Usage, WriteFault, OutsideProfile, Limit}
 use Rattle.perp_base.specs.Bytes.{IsOver}
 use Rattle.run_text.specs.Sections.{Split}
-use Rattle.program_edge.specs.View.{View}
+use Rattle.perp_base.specs.View.{View}
 use Rattle.program_edge.specs.Field.{IsStill, SomeRunFits}
 use Rattle.program_edge.proofs.Bytes.{appended_is, dropped_is, given_bytes, over_is_long}
 use Rattle.tool_core.specs.Words.{command_of}

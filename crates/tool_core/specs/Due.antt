@@ -16,7 +16,7 @@ use Rattle.run_text.specs.Events.{events_of}
 use Rattle.run_text.specs.Logs.{logs_of}
 use Rattle.run_text.specs.Sections.{Split, split_of}
 use Rattle.perp_loop.specs.Replaying.{sum_below}
-use Rattle.program_edge.specs.View.{View}
+use Rattle.perp_base.specs.View.{View}
 use Rattle.program_edge.specs.Form.{due_for_atoms, due_for_form}
 use Rattle.tool_core.specs.Words.{command_of}
 use Rattle.tool_core.specs.declared.words.Command.{Command}

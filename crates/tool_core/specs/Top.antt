@@ -11,7 +11,7 @@ use Rattle.report_text.specs.declared.status.Status.TheVariants.{Whole, Memory, 
 use Rattle.perp_base.specs.Bytes.{AppendsPart}
 use Rattle.perp_base.specs.Causes.{Rose}
 use Rattle.run_text.specs.Sections.{Split}
-use Rattle.program_edge.specs.View.{View}
+use Rattle.perp_base.specs.View.{View}
 use Rattle.program_edge.specs.Field.{IsStill, SomeRunFits}
 use Rattle.tool_core.specs.Words.{command_of}
 use Rattle.tool_core.specs.Due.{IsDue, Refused, Took, due_for_test, most_bytes, parts_of}

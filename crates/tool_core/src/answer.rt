@@ -1,7 +1,7 @@
 //! The answer to the words and the input, before anything is written: a text or a refusal, and the closed field.
-ghost use Rattle.std.specs.Prelude.{◌≡◌, ◌≤◌, ◌⊎◌, length, map, IfOk, IfErr, Some, string_bytes};
+ghost use Rattle.std.specs.Prelude.{◌≡◌, ◌≤◌, ◌⊎◌, length, IfOk, IfErr, Some, string_bytes};
 ghost use Rattle.perp_base.specs.Bytes.{GaveAll};
-ghost use Rattle.program_edge.specs.View.{seen};
+ghost use Rattle.program_edge.specs.View.{bytes_of};
 ghost use Rattle.tool_core.specs.Due.{IsDue, IsInputRefusal, Refused};
 ghost use Rattle.tool_core.specs.Status.{HasToolKind};
 ghost use Rattle.tool_core.specs.Top.{Answers, IsAnswer, IsStillOrRan, Leaves};
@@ -25,9 +25,9 @@ const MOST_INPUT: usize = 16_777_216;
 
 // All that the source has left.
 fn read_all<S: Source>(alloc: Global, source: &mut S) -> Result<Vec<u8>, ToolStatus>
-    ensures ok { IfOk result (λ bytes. GaveAll (S.left source.old) (S.left source.new) bytes.items) }
+    ensures ok { IfOk result (λ bytes. GaveAll (S.seen source.old).bytes (S.seen source.new).bytes bytes.items) }
     ensures short { IfOk result (λ bytes. length bytes.items ≤ 16777216) }
-    ensures err { IfErr result (IsInputRefusal (seen S.left S.faults source.old) (seen S.left S.faults source.new)) }
+    ensures err { IfErr result (IsInputRefusal (S.seen source.old) (S.seen source.new)) }
     ensures kind { IfErr result HasToolKind }
 {
     match read_input(alloc, source, MOST_INPUT) {
@@ -77,9 +77,9 @@ pub fn answer<R: Threads + Sync, S: Source, G: Gate>(
     gate: &G,
 ) -> Answered
     ensures identity { result.done.identity ≡ field }
-    ensures ok { IfOk result.text (λ text. Answers (map string_bytes words.now) (seen S.left S.faults source.old) (seen S.left S.faults source.new) result.done (string_bytes text)) }
-    ensures err { IfErr result.text (Refused (map string_bytes words.now) (seen S.left S.faults source.old) (seen S.left S.faults source.new)) }
-    ensures done { IfErr result.text (Leaves (map string_bytes words.now) (seen S.left S.faults source.old) (seen S.left S.faults source.new) result.done) }
+    ensures ok { IfOk result.text (λ text. Answers (bytes_of words.now) (S.seen source.old) (S.seen source.new) result.done (string_bytes text)) }
+    ensures err { IfErr result.text (Refused (bytes_of words.now) (S.seen source.old) (S.seen source.new)) }
+    ensures done { IfErr result.text (Leaves (bytes_of words.now) (S.seen source.old) (S.seen source.new) result.done) }
     ensures kind { IfErr result.text HasToolKind }
 {
     let command = match read_words(alloc, words) {

@@ -1,6 +1,5 @@
 // Writes an answer, where it is no refusal.
 ghost use Rattle.std.specs.Prelude.{◌≡◌, ◌⊎◌, IfOk, IfErr, string_bytes};
-ghost use Rattle.program_edge.specs.View.{seen};
 ghost use Rattle.tool_core.specs.Status.{HasToolKind};
 ghost use Rattle.tool_core.specs.Top.{WroteAsTool};
 
@@ -12,7 +11,7 @@ use program_edge::put_text;
 pub fn deliver<O: Sink>(text: &Result<String, ToolStatus>, out: &mut O) -> ToolStatus
     ensures kind { IfErr text.now HasToolKind → HasToolKind result }
     ensures refused { IfErr text.now (λ status. (result ≡ status) × (out.new ≡ out.old)) }
-    ensures text { IfOk text.now (λ text. WroteAsTool result (seen O.written O.faults out.old) (seen O.written O.faults out.new) (string_bytes text)) }
+    ensures text { IfOk text.now (λ text. WroteAsTool result (O.seen out.old) (O.seen out.new) (string_bytes text)) }
 {
     match text {
         Ok(text) => ToolStatus::Core(put_text(text.as_str(), out)),

@@ -1,6 +1,6 @@
 //! The second program's top call.
-ghost use Rattle.std.specs.Prelude.{◌≡◌, map, string_bytes};
-ghost use Rattle.program_edge.specs.View.{seen, Wrote};
+ghost use Rattle.std.specs.Prelude.{◌≡◌};
+ghost use Rattle.program_edge.specs.View.{bytes_of, Wrote};
 ghost use Rattle.tool_core.specs.Status.{tool_line};
 ghost use Rattle.tool_core.specs.Top.{Ended, Completes, IsUsage, RunFits, WritesWhole, WritesPart, ReadsToEnd, KeepsSource, AnswersDue, AnswersTooLong, IsField, SuitsCommand};
 
@@ -38,30 +38,30 @@ pub fn tool<R: Threads + Sync, S: Source, O: Sink, E: Sink, G: Gate>(
     gate: &G,
 ) -> ToolOutcome
     // What was written, and what the threads did on the field.
-    ensures whole { WritesWhole (map string_bytes words.now) (seen S.left S.faults source.old) result.done
-        (seen O.written O.faults out.old) (seen O.written O.faults out.new) result.status }
-    ensures part { WritesPart (map string_bytes words.now) (seen S.left S.faults source.old) result.done
-        (seen O.written O.faults out.old) (seen O.written O.faults out.new) result.status }
-    ensures fits { RunFits (map string_bytes words.now) (seen S.left S.faults source.old) result.done result.status }
+    ensures whole { WritesWhole (bytes_of words.now) (S.seen source.old) result.done
+        (O.seen out.old) (O.seen out.new) result.status }
+    ensures part { WritesPart (bytes_of words.now) (S.seen source.old) result.done
+        (O.seen out.old) (O.seen out.new) result.status }
+    ensures fits { RunFits (bytes_of words.now) (S.seen source.old) result.done result.status }
     ensures identity { result.done.identity ≡ field }
 
     // Each status has its cause, and what it leaves on `out` and on the field.
-    ensures ended { Ended (map string_bytes words.now) (seen S.left S.faults source.old) (seen S.left S.faults source.new) result.done
-        (seen O.written O.faults out.old) (seen O.written O.faults out.new) (out.new ≡ out.old) result.status }
-    ensures usage { IsUsage (map string_bytes words.now) result.status }
-    ensures due { AnswersDue (map string_bytes words.now) (seen S.left S.faults source.old) (seen S.left S.faults source.new) result.status }
-    ensures too_long { AnswersTooLong (map string_bytes words.now) (seen S.left S.faults source.old) (seen S.left S.faults source.new) result.status }
-    ensures suits { SuitsCommand (map string_bytes words.now) result.status }
-    ensures complete { Completes (map string_bytes words.now) (seen S.left S.faults source.old) (seen S.left S.faults source.new)
-        (seen O.written O.faults out.old) (seen O.written O.faults out.new) result.status }
+    ensures ended { Ended (bytes_of words.now) (S.seen source.old) (S.seen source.new) result.done
+        (O.seen out.old) (O.seen out.new) (out.new ≡ out.old) result.status }
+    ensures usage { IsUsage (bytes_of words.now) result.status }
+    ensures due { AnswersDue (bytes_of words.now) (S.seen source.old) (S.seen source.new) result.status }
+    ensures too_long { AnswersTooLong (bytes_of words.now) (S.seen source.old) (S.seen source.new) result.status }
+    ensures suits { SuitsCommand (bytes_of words.now) result.status }
+    ensures complete { Completes (bytes_of words.now) (S.seen source.old) (S.seen source.new)
+        (O.seen out.old) (O.seen out.new) result.status }
 
     // What every command leaves: the source, the field and `err`.
-    ensures read { ReadsToEnd (seen S.left S.faults source.new) result.status }
-    ensures kept { KeepsSource (seen S.left S.faults source.old) (seen S.left S.faults source.new) result.status }
-    ensures field { IsField (map string_bytes words.now) result.done result.status }
+    ensures read { ReadsToEnd (S.seen source.new) result.status }
+    ensures kept { KeepsSource (S.seen source.old) (S.seen source.new) result.status }
+    ensures field { IsField (bytes_of words.now) result.done result.status }
 
     // The line of the status, which is empty for the whole answer.
-    ensures line { Wrote (seen E.written E.faults err.old) (seen E.written E.faults err.new) (tool_line result.status) }
+    ensures line { Wrote (E.seen err.old) (E.seen err.new) (tool_line result.status) }
 {
     let Answered { text, done } = answer(rt, alloc, words, source, field, gate);
     let status = deliver(&text, out);

@@ -1,5 +1,6 @@
 //! The words of the second program.
-ghost use Rattle.std.specs.Prelude.{◌≡◌, ◌<◌, drop, length, map, string_bytes, IfOk, MatchResult};
+ghost use Rattle.std.specs.Prelude.{◌≡◌, ◌<◌, drop, length, IfOk, MatchResult};
+ghost use Rattle.program_edge.specs.View.{bytes_of};
 ghost use Rattle.tool_core.specs.Words.{HasIterations, alone, command_of};
 
 use command_words::{WordsError, read_iterations};
@@ -26,8 +27,8 @@ pub enum Command {
 fn alone(words: &[String], command: Command) -> Result<Command, WordsError>
     requires { 0 < length words.now }
     ensures same { IfOk result (λ c. c ≡ command) }
-    ensures words { MatchResult result (λ c. alone command (drop 1 (map string_bytes words.now)) ≡ Some c)
-        (λ e. alone command (drop 1 (map string_bytes words.now)) ≡ None) }
+    ensures words { MatchResult result (λ c. alone command (drop 1 (bytes_of words.now)) ≡ Some c)
+        (λ e. alone command (drop 1 (bytes_of words.now)) ≡ None) }
 {
     if words.len() == 1 {
         Ok(command)
@@ -39,8 +40,8 @@ fn alone(words: &[String], command: Command) -> Result<Command, WordsError>
 /// The command that the words name. `Usage` comes exactly where they name none; that memory is refused may come instead of either
 /// answer.
 pub fn read_words(alloc: Global, words: &[String]) -> Result<Command, WordsError>
-    ensures ok { IfOk result (λ c. command_of (map string_bytes words.now) ≡ Some c) }
-    ensures usage { result ≡ Err WordsError.Usage → command_of (map string_bytes words.now) ≡ None }
+    ensures ok { IfOk result (λ c. command_of (bytes_of words.now) ≡ Some c) }
+    ensures usage { result ≡ Err WordsError.Usage → command_of (bytes_of words.now) ≡ None }
     ensures within { IfOk result HasIterations }
 {
     if words.is_empty() {
