@@ -20,13 +20,14 @@ use Rattle.x86_subset.proofs.HeldLaws.{are_held_more, are_held_read, are_held_se
 use Rattle.x86_subset.proofs.ShapeLaws.{short_all}
 use Rattle.litmus_reader.specs.declared.kind.LitmusKind.TheVariants.{Column}
 use Rattle.litmus_reader.specs.Answer.{Accepted, Refusal, last_line, line_at, refuse, ◌>>=◌}
-use Rattle.litmus_reader.specs.Condition.{AtTerm, expression_at, outermost, quantifier_at, section_at}
+use Rattle.litmus_reader.specs.Condition.{quantifier_at, section_at}
+use Rattle.litmus_reader.specs.Expression.{AtTerm, expression_at, outermost}
 use Rattle.litmus_reader.specs.Draft.{IsFit}
 use Rattle.litmus_reader.specs.Front.{first_line, head}
 use Rattle.litmus_reader.specs.Initial.{items}
 use Rattle.litmus_reader.specs.Reading.{Reads, answer_of, limited, read_text, sections_at, test_of, tokens_at}
 use Rattle.litmus_reader.specs.Rows.{act, acted, are_columns, body_of, cell_at, cells, cells_at, columns_at, ends_code, no_code, row_of, rows_at, threads_after}
-use Rattle.litmus_reader.proofs.Bound.{bound, ok_is}
+use Rattle.litmus_reader.proofs.RowsKeep.{body_has, threads_keep}
 use Rattle.litmus_reader.proofs.FitLaws.{sections_fit}
 use Rattle.litmus_reader.proofs.ReadingLaws.{one_reading}
 
@@ -67,106 +68,23 @@ module _ (locations : List (List ℕ)) (code : Code) (h : IsHolding code) where
           some_code _ next k (are_held_read code.actions (code.actions ++ i ∷ []) i code.registers (register_number r) (length code.actions) refl refl refl h)
       go (held.Read place) k = absurd cc
 
--- ---- row by row
+-- ---- the threads that are read
 
 abbrev AreHolding : Threads → Type 0
 AreHolding s = All IsHolding s.bodies
 
-body_holds : (i : ℕ) (s : Threads) → AreHolding s → IsHolding (body_of i s)
-body_holds i s h = go s.bodies i h
-  where
-    go : (bodies : List Code) (i : ℕ) → All IsHolding bodies → IsHolding (slice_index_or bodies i empty_code)
-    go [] i k = empty_holds
-    go (b ∷ bs) zero k = k 0 empty_code (omega arith)
-    go (b ∷ bs) (suc i) k = go bs i (λ j d w. k (suc j) d (omega arith))
-
-acted_holds : (i : ℕ) (form : Form) (s : Threads) (o : Option Code) (line : ℕ) (next : Threads) → code_after s.locations form (body_of i s) ≡ o
-    → acted i form s o line ≡ Ok next → AreHolding s → AreHolding next
-acted_holds i form s None line next k e h = absurd cc
-acted_holds i form s (Some code) line next k e h =
-    subst AreHolding (ok_is (threads_after i form s code) next e)
-    (All-set IsHolding s.bodies i code (code_holds s.locations (body_of i s) (body_holds i s h) form code k) h)
-
-act_holds : (i : ℕ) (s : Threads) (r : Result Form InstrError) (line : ℕ) (next : Threads) → act i s r line ≡ Ok next → AreHolding s → AreHolding next
-act_holds i s (Err d) line next e h = absurd cc
-act_holds i s (Ok form) line next e h = acted_holds i form s (code_after s.locations form (body_of i s)) line next refl e h
-
-cell_holds : (i : ℕ) (s : Threads) (cell : List Lexeme) (next : Threads) → cell_at i s cell ≡ Ok next → AreHolding s → AreHolding next
-unfolding cell_at
-cell_holds i s cell next e h = act_holds i s (parse cell) (line_at 0 cell) next e h
-
-cells_hold : (i : ℕ) (s : Threads) (cs : List (List Lexeme)) (next : Threads) → cells_at i s cs ≡ Ok next → AreHolding s → AreHolding next
-unfolding cells_at
-cells_hold i s [] next e h = subst AreHolding (ok_is s next e) h
-cells_hold i s (c ∷ cs) next e h =
-    let b = bound (cell_at i s c) (λ next. cells_at (suc i) next cs) next e in
-    cells_hold (suc i) b.0 cs next b.2 (cell_holds i s c b.0 b.1 h)
-
-row_holds : (line : ℕ) (s : Threads) (row : List Lexeme) (next : Threads) → row_of line s row ≡ Ok next → AreHolding s → AreHolding next
-unfolding row_of
-row_holds line s row next e h = go (length (cells row) == length s.bodies) e
-  where
-    go : (v : Bool) → cond v (cells_at 0 s (cells row)) (refuse Column line) ≡ Ok next → AreHolding next
-    go true k = cells_hold 0 s (cells row) next k h
-    go false k = absurd cc
-
--- the threads that were read, and the tokens behind them
-abbrev Behind : Type 0
-Behind = Threads × List Lexeme
-
-rows_hold : (last : ℕ) (s : Threads) (row ts : List Lexeme) (x : Behind) → rows_at last s row ts ≡ Ok x → AreHolding s → AreHolding x.0
-unfolding rows_at
-rows_hold last s [] [] x e h = absurd cc
-rows_hold last s (y ∷ row) [] x e h = absurd cc
-rows_hold last s [] (t ∷ ts) x e h = go (λ next k. rows_hold last next [] ts x k) (rows_hold last s (t ∷ []) ts x) (ends_code t) (is Semi t) e
-  where
-    go : ((next : Threads) → rows_at last next [] ts ≡ Ok x → AreHolding next → AreHolding x.0) → (rows_at last s (t ∷ []) ts ≡ Ok x → AreHolding s → AreHolding x.0) → (v w : Bool)
-        → cond v (Ok (s, t ∷ ts)) (cond w (row_of t.line s [] >>= (λ next. rows_at last next [] ts)) (rows_at last s (t ∷ []) ts)) ≡ Ok x → AreHolding x.0
-    go again longer true w k = subst (λ (x : Behind). AreHolding x.0) (ok_is (s, t ∷ ts) x k) h
-    go again longer false true k = let b = bound (row_of t.line s []) (λ next. rows_at last next [] ts) x k in again b.0 b.2 (row_holds t.line s [] b.0 b.1 h)
-    go again longer false false k = longer k h
-rows_hold last s (y ∷ row) (t ∷ ts) x e h = go (λ next k. rows_hold last next [] ts x k) (rows_hold last s (y ∷ (row ++ t ∷ [])) ts x) (is Semi t) e
-  where
-    go : ((next : Threads) → rows_at last next [] ts ≡ Ok x → AreHolding next → AreHolding x.0) → (rows_at last s (y ∷ (row ++ t ∷ [])) ts ≡ Ok x → AreHolding s → AreHolding x.0) → (w : Bool)
-        → cond w (row_of t.line s (y ∷ row) >>= (λ next. rows_at last next [] ts)) (rows_at last s (y ∷ (row ++ t ∷ [])) ts) ≡ Ok x → AreHolding x.0
-    go again longer true k = let b = bound (row_of t.line s (y ∷ row)) (λ next. rows_at last next [] ts) x k in again b.0 b.2 (row_holds t.line s (y ∷ row) b.0 b.1 h)
-    go again longer false k = longer k h
-
-columns_hold : (last : ℕ) (row ts : List Lexeme) (x : Behind) → columns_at last row ts ≡ Ok x → AreHolding x.0
-unfolding columns_at
-columns_hold last row [] x e = absurd cc
-columns_hold last row (t ∷ ts) x e = go (columns_hold last (row ++ t ∷ []) ts x) (is Semi t) (are_columns 0 (cells row)) e
-  where
-    go : (columns_at last (row ++ t ∷ []) ts ≡ Ok x → AreHolding x.0) → (v w : Bool)
-        → cond v (cond w (Ok (no_code (length (cells row)), ts)) (refuse Column t.line)) (columns_at last (row ++ t ∷ []) ts) ≡ Ok x → AreHolding x.0
-    go longer true true k =
-        subst (λ (x : Behind). AreHolding x.0) (ok_is (no_code (length (cells row)), ts) x k) (All-replicate IsHolding (length (cells row)) empty_code empty_holds)
-    go longer true false k = absurd cc
-    go longer false w k = longer k
-
--- ---- the whole text
-
-moved : (x y : LitmusTest) → x ≡ y → HoldsReads x → HoldsReads y
-moved x y e h = subst HoldsReads e h
-
-tokens_hold : (last : ℕ) (name : List ℕ) (ts : List Lexeme) (test : LitmusTest) → tokens_at last name ts ≡ Ok test → HoldsReads test
-unfolding tokens_at
-tokens_hold last name ts test e =
-    let i = bound (items last [] ts) _ test e in
-    let c = bound (columns_at last [] i.0) _ test i.2 in
-    let s = bound (rows_at last c.0.0 [] c.0.1) _ test c.2 in
-    let l = bound (section_at last s.0.1) _ test s.2 in
-    let q = bound (quantifier_at last l.0) _ test l.2 in
-    let j = bound (expression_at last (AtTerm false) outermost q.0.1) _ test q.2 in
-    moved (test_of name s.0.0 q.0.0 j.0) test (ok_is (test_of name s.0.0 q.0.0 j.0) test j.2)
-    (rows_hold last c.0.0 [] c.0.1 s.0 s.1 (columns_hold last [] i.0 c.0 c.1))
+acted_holds : (i : ℕ) (s : Threads) (form : Form) (code : Code) → code_after s.locations form (body_of i s) ≡ Some code → AreHolding s
+    → AreHolding (threads_after i form s code)
+acted_holds i s form code k h =
+    All-set IsHolding s.bodies i code (code_holds s.locations (body_of i s) (body_has IsHolding empty_holds i s h) form code k) h
 
 sections_hold : (text : List ℕ) (test : LitmusTest) → sections_at text ≡ Ok test → HoldsReads test
-unfolding sections_at
 sections_hold text test e =
-    let f = bound (first_line text) _ test e in
-    let h = bound (head (last_line text) 0 f.0.1.at f.0.1.text) _ test f.2 in
-    tokens_hold (last_line text) f.0.0 (lex 0 h.0.at h.0.text) test h.2
+    let start = λ (row : List Lexeme). All-replicate IsHolding (length (cells row)) empty_code empty_holds in
+    let k = (threads_keep AreHolding start acted_holds text test e).kept in
+    subst HoldsReads k.is k.good
+
+-- ---- the whole text
 
 -- no limit is passed
 none_passed : (threads locations actions atoms : Bool)

@@ -10,7 +10,8 @@ use Rattle.litmus_reader.specs.Answer.{Refusal, Answer, Accepted, Refused, Over,
 use Rattle.litmus_reader.specs.Front.{Rest, FirstLine, first_line, Head, head}
 use Rattle.litmus_reader.specs.Initial.{Items, items}
 use Rattle.litmus_reader.specs.Rows.{Columns, columns_at, Rows, rows_at}
-use Rattle.litmus_reader.specs.Condition.{Section, section_at, Quantified, quantifier_at, Joined, outermost, Term, expression_at, AtTerm}
+use Rattle.litmus_reader.specs.Condition.{Section, section_at, Quantified, quantifier_at, Term, none_read, Joined, in_a_row}
+use Rattle.litmus_reader.specs.Expression.{outermost, expression_at, AtTerm}
 
 -- the test of these sections
 abbrev pub test_of : List ℕ → cell.Threads → Quantifier → Joined → LitmusTest
@@ -24,7 +25,7 @@ Tokens last name ts =
     Then (Rows last c.0 c.1) (λ s.
     Then (Section last s.1) (λ ts.
     Then (Quantified last ts) (λ q.
-    Then (Term last false outermost q.1) (λ j test. test ≡ Ok (test_of name s.0 q.0 j)))))))
+    Then (Term last false [] none_read q.1) (λ cs test. test ≡ Ok (test_of name s.0 q.0 (in_a_row cs))))))))
 
 -- the tokens behind the first brace
 pub data Cut (last : ℕ) (name : List ℕ) (rest : Rest) (r : Result LitmusTest Refusal) : Type 0 where
