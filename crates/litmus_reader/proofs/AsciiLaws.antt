@@ -24,7 +24,7 @@ use Rattle.x86_subset.specs.Cell.{Form, Blank, Fence, StoreNumber, StoreRegister
 use Rattle.litmus_reader.specs.declared.kind.LitmusKind.TheVariants.{NotX86, Column}
 use Rattle.litmus_reader.specs.Answer.{Refusal, Accepted, refuse, ◌>>=◌, line_at, last_line}
 use Rattle.litmus_reader.specs.Front.{words, is_printed, is_x86, name_of, Rest, named_or_not, rest_at, line_in, behind_line, first_line, head}
-use Rattle.x86_subset.specs.Token.{after, start}
+use Rattle.x86_subset.specs.Token.{after_bytes, start}
 use Rattle.litmus_reader.specs.Initial.{ends_item, judge, items}
 use Rattle.litmus_reader.specs.Rows.{cells, are_columns, no_code, columns_at, body_of, threads_after, ends_code, acted, act, cell_at, cells_at, row_of, rows_at}
 use Rattle.litmus_reader.specs.Condition.{section_at, quantifier_at, expression_at, AtTerm, outermost}
@@ -364,9 +364,9 @@ first_ascii : (text : List ℕ) (x : List ℕ × Rest) → first_line text ≡ O
 unfolding first_line
 first_ascii text x e = go (is_x86 (words (line_in text))) (name_of (words (line_in text))) refl e
   where
-    go : (v : Bool) (o : Option (List ℕ)) → name_of (words (line_in text)) ≡ o → cond v (named_or_not o (rest_at (after start (line_in text)) (behind_line text))) (refuse NotX86 1) ≡ Ok x → IsAscii x.0
+    go : (v : Bool) (o : Option (List ℕ)) → name_of (words (line_in text)) ≡ o → cond v (named_or_not o (rest_at (after_bytes start (line_in text)) (behind_line text))) (refuse NotX86 1) ≡ Ok x → IsAscii x.0
     go true None k e = absurd cc
-    go true (Some name) k e = subst (λ (x : List ℕ × Rest). IsAscii x.0) (ok_is (name, rest_at (after start (line_in text)) (behind_line text)) x e) (name_ascii (words (line_in text)) name k)
+    go true (Some name) k e = subst (λ (x : List ℕ × Rest). IsAscii x.0) (ok_is (name, rest_at (after_bytes start (line_in text)) (behind_line text)) x e) (name_ascii (words (line_in text)) name k)
     go false o k e = absurd cc
 
 moved : (x y : LitmusTest) → x ≡ y → HasAsciiNames x → HasAsciiNames y
