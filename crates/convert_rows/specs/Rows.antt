@@ -11,7 +11,8 @@ use Rattle.profile_check.specs.declared.kind.AtomKind.{AtomKind}
 use Rattle.outcome_conv.specs.Conds.{conds_of}
 use Rattle.outcome_conv.specs.declared.cond.Cond.{Cond}
 use Rattle.outcome_conv.specs.declared.cond.CondKind.{CondKind}
-use Rattle.outcome_conv.specs.declared.cond.CondKind.TheVariants.{AtLeast, Below, Exact as Equal}
+use Rattle.outcome_conv.specs.declared.cond.CondKind.TheVariants.{AtLeast, Below}
+use Rattle.outcome_conv.specs.declared.cond.CondKind.TheVariants as cond_kind
 use Rattle.report_text.specs.Conversion.{ConversionRows}
 use Rattle.report_text.specs.declared.conversion.AtomForm.TheVariants.{Rf, Fr, Exact}
 use Rattle.report_text.specs.declared.conversion.AtomRow.{AtomRow}
@@ -68,7 +69,7 @@ rows_in_bodies rows t (code ∷ codes) = rows_in_body rows t 0 code.actions ++ r
 abbrev pub atom_row_by : CondKind → Cond → AtomRow
 atom_row_by (AtLeast k a) c = record { form = Rf; reader = c.reader; column = c.column; writer = c.writer; k = k; a = a }
 atom_row_by (Below k) c = record { form = Fr; reader = c.reader; column = c.column; writer = c.writer; k = k; a = 1 }
-atom_row_by (Equal k a) c = record { form = Exact; reader = c.reader; column = c.column; writer = c.writer; k = k; a = a }
+atom_row_by (cond_kind.Exact k a) c = record { form = Exact; reader = c.reader; column = c.column; writer = c.writer; k = k; a = a }
 
 abbrev pub atom_row : Cond → AtomRow
 atom_row c = atom_row_by c.kind c

@@ -7,7 +7,7 @@ use Rattle.x86_subset.specs.declared.instr.Reg.TheVariants.{Eax}
 use Rattle.x86_subset.specs.declared.test.Atom.{Atom}
 use Rattle.x86_subset.specs.declared.test.Quantifier.TheVariants.{Exists}
 use Rattle.x86_subset.specs.Test.{Code, LitmusTest}
-use Rattle.x86_subset.specs.Token.{Spot, Lexeme, after, is_blank, is_digit, is_letter, is_head, is_tail, sign, is_pair, is_single, close_end, pair_cut, cut_at, lex}
+use Rattle.x86_subset.specs.Token.{Spot, Lexeme, after_bytes, is_blank, is_digit, is_letter, is_head, is_tail, sign, is_pair, is_single, close_end, pair_cut, cut_at, lex}
 use Rattle.x86_subset.specs.Cell.{Form, Blank, Fence, StoreNumber, Load, Threads, empty_code, code_after, parse}
 use Rattle.x86_subset.specs.Form.{capital, register_of, fill, fit, meaning}
 use Rattle.litmus_reader.specs.Answer.{Refusal, ◌>>=◌}
@@ -84,7 +84,7 @@ behind last name r = do
   Ok (test_of name s.0 q.0 j)
 
 behind_brace : (last : ℕ) (name : List ℕ) (at : Spot) (rest : List ℕ)
-    → tokens_at last name (lex 0 at (codes " }\n" ++ rest)) ≡ (columns_at last [] (lex 0 (after at (codes " }\n")) rest) >>= λ c. behind last name (rows_at last c.0 [] c.1))
+    → tokens_at last name (lex 0 at (codes " }\n" ++ rest)) ≡ (columns_at last [] (lex 0 (after_bytes at (codes " }\n")) rest) >>= λ c. behind last name (rows_at last c.0 [] c.1))
 unfolding reading
 behind_brace last name at rest = refl
 
@@ -92,7 +92,7 @@ abbrev before_row : Line → ℕ → Threads → Spot → List ℕ → List Bool
 before_row line last s at rest bs = rows_at last s [] (lex 0 at (line_text line (plains bs) ++ rest))
 
 abbrev behind_row : Line → ℕ → ℕ → Threads → Spot → List ℕ → List Bool → Result (Threads × List Lexeme) Refusal
-behind_row line n last s at rest bs = rows_at last (threads_by line n 0 bs s) [] (lex 0 (after at (line_text line (plains bs))) rest)
+behind_row line n last s at rest bs = rows_at last (threads_by line n 0 bs s) [] (lex 0 (after_bytes at (line_text line (plains bs))) rest)
 
 -- a row is read from these threads
 abbrev RowReads : Line → ℕ → Threads → List Bool → Type 0
@@ -101,7 +101,7 @@ RowReads line n s bs = (last : ℕ) (at : Spot) (rest : List ℕ) → every bs (
 -- the columns are read
 abbrev ColumnsRead : List Draw → Type 0
 ColumnsRead ds = (last : ℕ) (at : Spot) (rest : List ℕ)
-    → columns_at last [] (lex 0 at (line_text Columns ds ++ rest)) ≡ Ok (no_code (length ds), lex 0 (after at (line_text Columns ds)) rest)
+    → columns_at last [] (lex 0 at (line_text Columns ds ++ rest)) ≡ Ok (no_code (length ds), lex 0 (after_bytes at (line_text Columns ds)) rest)
 
 -- the condition is read
 abbrev ConditionReads : List Bool → Type 0
@@ -143,10 +143,10 @@ module _ (ds : List Draw) (columns : ColumnsRead ds)
   pub all_read : (last : ℕ) (name : List ℕ) (at : Spot) → tokens_at last name (lex 0 at (rest_text ds)) ≡ Ok (test_for name ds)
   all_read last name at =
       behind_brace last name at _
-      ∙ ap (λ c. c >>= λ c. behind last name (rows_at last c.0 [] c.1)) (columns last (after at (codes " }\n")) _)
-      ∙ ap (λ text. behind last name (rows_at last (no_code (length ds)) [] (lex 0 (after (after at (codes " }\n")) (line_text Columns ds)) text)))
+      ∙ ap (λ c. c >>= λ c. behind last name (rows_at last c.0 [] c.1)) (columns last (after_bytes at (codes " }\n")) _)
+      ∙ ap (λ text. behind last name (rows_at last (no_code (length ds)) [] (lex 0 (after_bytes (after_bytes at (codes " }\n")) (line_text Columns ds)) text)))
       (ap₂ (λ a b. a ++ b) (line-plain First ds) (ap₂ (λ a b. a ++ b) (line-plain Middle ds) (ap₂ (λ a b. a ++ b) (line-plain Last ds) (line-plain Condition ds))))
-      ∙ rows_read last name (after (after at (codes " }\n")) (line_text Columns ds))
+      ∙ rows_read last name (after_bytes (after_bytes at (codes " }\n")) (line_text Columns ds))
 
 -- ---- two, three and four threads
 

@@ -9,7 +9,7 @@ use Rattle.std.proofs.lemmas.Bool.Decides.{nat_tests}
 use Rattle.std.proofs.lemmas.List.Folds.{list_all-append}
 use Rattle.std.proofs.lemmas.List.Splits.{slice_split_at}
 use Rattle.std.proofs.lemmas.Fmt.{decimal_by_steps}
-use Rattle.x86_subset.specs.Token.{is_blank, start, after}
+use Rattle.x86_subset.specs.Token.{is_blank, start, after_bytes}
 use Rattle.litmus_reader.specs.Front.{rest_at, is_no_feed, is_printed, words, is_x86, name_of, fed, named, first_line}
 use Rattle.litmus_reader.proofs.FrontLaws.{first_only}
 use Rattle.demo_text.specs.Demo.{demo_name}
@@ -67,7 +67,7 @@ words_are b bs h =
 
 -- a first line with a printed name is read as that name
 pub first_is : (b : ℕ) (bs rest : List ℕ) → list_all is_printed (b ∷ bs) ≡ true
-    → first_line (codes "X86 " ++ ((b ∷ bs) ++ 10 ∷ rest)) ≡ Ok ((b ∷ bs), rest_at (after start (codes "X86 " ++ ((b ∷ bs) ++ 10 ∷ []))) rest)
+    → first_line (codes "X86 " ++ ((b ∷ bs) ++ 10 ∷ rest)) ≡ Ok ((b ∷ bs), rest_at (after_bytes start (codes "X86 " ++ ((b ∷ bs) ++ 10 ∷ []))) rest)
 first_is b bs rest h =
     first_only (codes "X86 " ++ ((b ∷ bs) ++ 10 ∷ rest))
     (named (codes "X86 " ++ ((b ∷ bs) ++ 10 ∷ [])) (fed (codes "X86 " ++ (b ∷ bs)) rest (no_feeds (b ∷ bs) h))

@@ -8,7 +8,7 @@ use Rattle.std.proofs.lemmas.List.FromFn.{length-map-range_with_len}
 use Rattle.std.proofs.lemmas.Fmt.{length-decimal-le}
 use Rattle.x86_subset.specs.Test.{LitmusTest}
 use Rattle.x86_subset.specs.Shape.{limit_of}
-use Rattle.x86_subset.specs.Token.{is_blank, start, after, after_byte, lex}
+use Rattle.x86_subset.specs.Token.{is_blank, start, after_bytes, after_byte, lex}
 use Rattle.litmus_reader.specs.Answer.{Accepted, ◌>>=◌, last_line}
 use Rattle.litmus_reader.specs.Front.{item_at, head}
 use Rattle.litmus_reader.specs.Reading.{Reads, tokens_at, sections_at, limited, answer_of, read_text}
@@ -39,7 +39,7 @@ holds k = drawn (λ j. draw_by (generator_word k j)) (generator_word k 0 % 3) (m
 
 after_first : (k : ℕ) → k < 2 ^ 64 → (ds : List Draw)
     → sections_at (text_by (demo_name k) ds)
-    ≡ tokens_at (last_line (text_by (demo_name k) ds)) (demo_name k) (lex 0 (after_byte (after start (codes "X86 " ++ (demo_name k ++ 10 ∷ []))) 123) (rest_text ds))
+    ≡ tokens_at (last_line (text_by (demo_name k) ds)) (demo_name k) (lex 0 (after_byte (after_bytes start (codes "X86 " ++ (demo_name k ++ 10 ∷ []))) 123) (rest_text ds))
 unfolding sections_at head item_at is_blank
 after_first k h ds =
     ap (λ r. r >>= λ first. head (last_line (text_by (demo_name k) ds)) 0 first.1.at first.1.text >>= λ rest. tokens_at (last_line (text_by (demo_name k) ds)) first.0 (lex 0 rest.at rest.text))

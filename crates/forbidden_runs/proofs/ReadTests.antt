@@ -10,7 +10,7 @@ use Rattle.x86_subset.specs.declared.cell.InstrError.{InstrError}
 use Rattle.x86_subset.specs.declared.test.Shape.{Shape}
 use Rattle.x86_subset.specs.declared.test.Shape.TheVariants.{Threads as TooManyThreads, Locations, Instrs, Atoms}
 use Rattle.x86_subset.specs.declared.token.TokenKind.TheVariants.{Semi}
-use Rattle.x86_subset.specs.Cell.{Form, Blank, Fence, StoreNumber, StoreRegister, Load, Constant, Exchange, Threads, adding, code_after, empty_code, held_by, number_of, parse, reading, with_constant}
+use Rattle.x86_subset.specs.Cell.{Form, Blank, Fence, StoreNumber, StoreRegister, Load, Constant, Exchange, Threads, adding, code_after, empty_code, held_by, location_number, parse, reading, with_constant}
 use Rattle.x86_subset.specs.Form.{is}
 use Rattle.x86_subset.specs.Registers.{AreHeld, IsHeld, register_number}
 use Rattle.x86_subset.specs.Shape.{IsTest, is_long, limit_of}
@@ -50,21 +50,21 @@ module _ (locations : List (List ℕ)) (code : Code) (h : IsHolding code) where
   code_holds : (form : Form) (next : Code) → code_after locations form code ≡ Some next → IsHolding next
   code_holds Blank next e = some_code _ next e h
   code_holds Fence next e = some_code _ next e (more instr.Fence)
-  code_holds (StoreNumber x n) next e = some_code _ next e (more (instr.Store (number_of locations x) n))
+  code_holds (StoreNumber x n) next e = some_code _ next e (more (instr.Store (location_number locations x) n))
   code_holds (StoreRegister x r) next e = go (held_by code r) e
     where
-      go : (v : Held) → with_constant v (λ n. adding code (instr.Store (number_of locations x) n)) ≡ Some next → IsHolding next
-      go (held.Constant n) k = some_code _ next k (more (instr.Store (number_of locations x) n))
+      go : (v : Held) → with_constant v (λ n. adding code (instr.Store (location_number locations x) n)) ≡ Some next → IsHolding next
+      go (held.Constant n) k = some_code _ next k (more (instr.Store (location_number locations x) n))
       go (held.Read place) k = absurd cc
   code_holds (Load r x) next e =
-      let i = instr.Load r (number_of locations x) in
+      let i = instr.Load r (location_number locations x) in
       some_code _ next e (are_held_read code.actions (code.actions ++ i ∷ []) i code.registers (register_number r) (length code.actions) refl refl refl h)
   code_holds (Constant r n) next e = some_code _ next e (are_held_set code.actions code.registers (register_number r) (held.Constant n) tt h)
   code_holds (Exchange x r) next e = go (held_by code r) e
     where
-      go : (v : Held) → with_constant v (λ n. reading code r (instr.Exchange (number_of locations x) n r)) ≡ Some next → IsHolding next
+      go : (v : Held) → with_constant v (λ n. reading code r (instr.Exchange (location_number locations x) n r)) ≡ Some next → IsHolding next
       go (held.Constant n) k =
-          let i = instr.Exchange (number_of locations x) n r in
+          let i = instr.Exchange (location_number locations x) n r in
           some_code _ next k (are_held_read code.actions (code.actions ++ i ∷ []) i code.registers (register_number r) (length code.actions) refl refl refl h)
       go (held.Read place) k = absurd cc
 

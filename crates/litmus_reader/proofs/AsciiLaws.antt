@@ -23,7 +23,7 @@ use Rattle.x86_subset.specs.Cell.{Form, Blank, Fence, StoreNumber, StoreRegister
 use Rattle.litmus_reader.specs.declared.kind.LitmusKind.TheVariants.{NotX86}
 use Rattle.litmus_reader.specs.Answer.{Refusal, Accepted, refuse}
 use Rattle.litmus_reader.specs.Front.{words, is_printed, is_x86, name_of, Rest, named_or_not, rest_at, line_in, behind_line, first_line}
-use Rattle.x86_subset.specs.Token.{after, start}
+use Rattle.x86_subset.specs.Token.{after_bytes, start}
 use Rattle.litmus_reader.specs.Rows.{body_of, threads_after}
 use Rattle.litmus_reader.specs.Reading.{sections_at, limited, answer_of, read_text}
 use Rattle.litmus_reader.specs.declared.kind.LitmusError.{LitmusError}
@@ -274,9 +274,9 @@ first_ascii : (text : List ℕ) (x : List ℕ × Rest) → first_line text ≡ O
 unfolding first_line
 first_ascii text x e = go (is_x86 (words (line_in text))) (name_of (words (line_in text))) refl e
   where
-    go : (v : Bool) (o : Option (List ℕ)) → name_of (words (line_in text)) ≡ o → cond v (named_or_not o (rest_at (after start (line_in text)) (behind_line text))) (refuse NotX86 1) ≡ Ok x → IsAscii x.0
+    go : (v : Bool) (o : Option (List ℕ)) → name_of (words (line_in text)) ≡ o → cond v (named_or_not o (rest_at (after_bytes start (line_in text)) (behind_line text))) (refuse NotX86 1) ≡ Ok x → IsAscii x.0
     go true None k e = absurd cc
-    go true (Some name) k e = subst (λ (x : List ℕ × Rest). IsAscii x.0) (ok_is (name, rest_at (after start (line_in text)) (behind_line text)) x e) (name_ascii (words (line_in text)) name k)
+    go true (Some name) k e = subst (λ (x : List ℕ × Rest). IsAscii x.0) (ok_is (name, rest_at (after_bytes start (line_in text)) (behind_line text)) x e) (name_ascii (words (line_in text)) name k)
     go false o k e = absurd cc
 
 sections_ascii : (text : List ℕ) (test : LitmusTest) → sections_at text ≡ Ok test → HasAsciiNames test

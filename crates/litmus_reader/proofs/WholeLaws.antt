@@ -2,7 +2,7 @@
 use Rattle.std.proofs.Common.{◌≡◌, ℕ, ◌≤◌, List, length, take, drop, Option, Some, None, Result, Ok, Err, refl, sym, ap, subst, ◌∙◌}
 use Rattle.std.specs.Prelude.{IfOk, IfErr}
 use Rattle.x86_subset.specs.declared.test.Shape.{Shape}
-use Rattle.x86_subset.specs.Token.{spot, start, after, lex, tokens_of}
+use Rattle.x86_subset.specs.Token.{spot, start, after_bytes, lex, tokens_of}
 use Rattle.x86_subset.specs.Form.{lexemes}
 use Rattle.x86_subset.specs.Test.{LitmusTest}
 use Rattle.x86_subset.specs.Shape as shape
@@ -19,7 +19,7 @@ use Rattle.litmus_reader.specs.Draft.{draft_of, IsMade}
 use Rattle.litmus_reader.specs.Answered.{IfAnswered, RefusesText}
 use Rattle.litmus_reader.proofs.ReadingLaws.{one_reading}
 
-module _ (text name : List ℕ) (from line : ℕ) (h : first_line text ≡ Ok (name, rest_at (after start (take from text)) (drop from text))) (k : spot from line ≡ after start (take from text)) where
+module _ (text name : List ℕ) (from line : ℕ) (h : first_line text ≡ Ok (name, rest_at (after_bytes start (take from text)) (drop from text))) (k : spot from line ≡ after_bytes start (take from text)) where
   first_step : sections_at text ≡ (head (last_line text) 0 (spot from line) (drop from text) >>= λ rest. tokens_at (last_line text) name (lex 0 rest.at rest.text))
   unfolding sections_at
   first_step = rw (h, k) refl
@@ -29,7 +29,7 @@ module _ (text name : List ℕ) (from line : ℕ) (h : first_line text ≡ Ok (n
   head_refused (errors.Bad kind l) r = first_step ∙ ap (λ x. x >>= λ rest. tokens_at (last_line text) name (lex 0 rest.at rest.text)) r
   head_refused (errors.Over limit) r = r
 
-  pub sections_answer : (at l : ℕ) → head (last_line text) 0 (spot from line) (drop from text) ≡ Ok (rest_at (spot at l) (drop at text)) → spot at l ≡ after start (take at text) → at ≤ length text
+  pub sections_answer : (at l : ℕ) → head (last_line text) 0 (spot from line) (drop from text) ≡ Ok (rest_at (spot at l) (drop at text)) → spot at l ≡ after_bytes start (take at text) → at ≤ length text
       → (r : Result Draft LitmusError) → Answers (draft_of text) r (tokens_at (last_line text) name (lexemes text (tokens_of text at))) → Answers (draft_of text) r (sections_at text)
   sections_answer at l e m b r a =
       let one : sections_at text ≡ tokens_at (last_line text) name (lex 0 (spot at l) (drop at text)) = first_step ∙ ap (λ x. x >>= λ rest. tokens_at (last_line text) name (lex 0 rest.at rest.text)) e in
@@ -51,7 +51,7 @@ answered_err text (errors.Bad kind line) r = ap answer_of r
 answered_err text (errors.Over limit) r = absurd r
 
 -- a test that was read, by its limits
-pub answered_made : (text : List ℕ) (test : LitmusTest) → sections_at text ≡ Ok test → (r : Result LitmusTest LitmusError) → IsMade r (shape.limited test) → IfAnswered r (λ answer. read_text text ≡ answer)
+pub answered_made : (text : List ℕ) (test : LitmusTest) → sections_at text ≡ Ok test → (r : Result LitmusTest LitmusError) → IsMade r (shape.if_within_limits test) → IfAnswered r (λ answer. read_text text ≡ answer)
 unfolding read_text
 answered_made text test h r m = go (limit_of test) refl r m
   where

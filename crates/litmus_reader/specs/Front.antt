@@ -1,7 +1,7 @@
 -- The first line and the header of herdtools' X86 litmus format, in the profile that this project takes.
 use Rattle.std.specs.Prelude.{◌≡◌, ℕ, zero, suc, Bool, true, false, ◌&&◌, ◌||◌, IsTrue, IsFalse, List, [], ◌∷◌, ◌++◌, take, drop, Option, Some, None, option_map, Result, Ok, not, nat_le, ◌==◌, if◌then◌else◌, codes, bytes_eq, length}
 use Rattle.std.specs.List.{list_all, list_any, slice_split, filter}
-use Rattle.x86_subset.specs.Token.{is_blank, is_letter, begins, Spot, start, after_byte, after, closes, close_end}
+use Rattle.x86_subset.specs.Token.{is_blank, is_letter, begins, Spot, start, after_byte, after_bytes, closes, close_end}
 use Rattle.litmus_reader.specs.declared.front.Item.{Item}
 use Rattle.litmus_reader.specs.declared.front.Item.TheVariants.{Skipped, Opens, Unknown}
 use Rattle.litmus_reader.specs.declared.kind.LitmusKind.TheVariants.{NotX86, Header}
@@ -54,7 +54,7 @@ pub data FirstLine (text : List ℕ) : Result (List ℕ × Rest) Refusal → Typ
   -- not one word more, or one with a byte that is not printed
   no_name : (line rest : List ℕ) → Line text line rest → IsTrue (is_x86 (words line)) → name_of (words line) ≡ None → FirstLine text (refuse Header 1)
   -- the second word is the name
-  named : (line : List ℕ) {name rest : List ℕ} → Line text line rest → IsTrue (is_x86 (words line)) → name_of (words line) ≡ Some name → FirstLine text (Ok (name, rest_at (after start line) rest))
+  named : (line : List ℕ) {name rest : List ℕ} → Line text line rest → IsTrue (is_x86 (words line)) → name_of (words line) ≡ Some name → FirstLine text (Ok (name, rest_at (after_bytes start line) rest))
 
 -- ---- the header
 
@@ -84,17 +84,17 @@ pub data Head (last : ℕ) : Spot → List ℕ → Result Rest Refusal → Type 
   opened : {at : Spot} {rest : List ℕ} → Head last at (123 ∷ rest) (Ok (rest_at (after_byte at 123) rest))
   -- `"`, to the next one
   quoted : {at : Spot} (inside rest : List ℕ) {r : Result Rest Refusal} → IsTrue (list_all is_no_quote inside)
-      → Head last (after at (34 ∷ (inside ++ 34 ∷ []))) rest r → Head last at (34 ∷ (inside ++ 34 ∷ rest)) r
+      → Head last (after_bytes at (34 ∷ (inside ++ 34 ∷ []))) rest r → Head last at (34 ∷ (inside ++ 34 ∷ rest)) r
   -- a quote that is not closed: the line where it opens
   unquoted : {at : Spot} {inside : List ℕ} → IsTrue (list_all is_no_quote inside) → Head last at (34 ∷ inside) (refuse Header at.line)
   -- a comment
   comment : {at : Spot} (inside rest : List ℕ) {r : Result Rest Refusal} → IsFalse (closes inside)
-      → Head last (after at (40 ∷ 42 ∷ (inside ++ 42 ∷ 41 ∷ []))) rest r → Head last at (40 ∷ 42 ∷ (inside ++ 42 ∷ 41 ∷ rest)) r
+      → Head last (after_bytes at (40 ∷ 42 ∷ (inside ++ 42 ∷ 41 ∷ []))) rest r → Head last at (40 ∷ 42 ∷ (inside ++ 42 ∷ 41 ∷ rest)) r
   -- a comment that is not closed: the line where it opens
   unclosed : {at : Spot} {inside : List ℕ} → IsFalse (closes inside) → Head last at (40 ∷ 42 ∷ inside) (refuse Header at.line)
   -- an entry: it begins with a letter and has an `=` later in its line
   key : {at : Spot} {b : ℕ} {text : List ℕ} (skipped rest : List ℕ) {r : Result Rest Refusal} → Line text skipped rest → IsTrue (is_key b skipped)
-      → Head last (after at (b ∷ skipped)) rest r → Head last at (b ∷ text) r
+      → Head last (after_bytes at (b ∷ skipped)) rest r → Head last at (b ∷ text) r
   -- no beginning of these kinds
   other : {at : Spot} {b : ℕ} {text : List ℕ} (skipped rest : List ℕ) → IsTrue (is_plain b) → IsFalse (b == 40 && begins is_star text) → Line text skipped rest → IsFalse (is_key b skipped)
       → Head last at (b ∷ text) (refuse Header at.line)
@@ -123,7 +123,7 @@ named_or_not (Some name) rest = Ok (name, rest)
 unfoldable pub first_line : List ℕ → Result (List ℕ × Rest) Refusal
 first_line text =
     let ws = words (line_in text) in
-    if is_x86 ws then named_or_not (name_of ws) (rest_at (after start (line_in text)) (behind_line text)) else refuse NotX86 1
+    if is_x86 ws then named_or_not (name_of ws) (rest_at (after_bytes start (line_in text)) (behind_line text)) else refuse NotX86 1
 
 -- how many bytes there are up to and with the next quote
 unfoldable pub quote_end : List ℕ → Option ℕ

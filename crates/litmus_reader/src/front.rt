@@ -1,7 +1,7 @@
 // The first line and the header.
 ghost use Rattle.std.specs.Prelude.{ℕ, suc, List, [], ◌≡◌, ◌≤◌, ◌<◌, ◌+◌, ◌&&◌, ◌==◌, length, take, drop, map, option_map, IfOk, IfSome};
 ghost use Rattle.std.specs.List.{list_all, list_any, slice_split};
-ghost use Rattle.x86_subset.specs.Token.{is_blank, close_end, begins, spot, start, after};
+ghost use Rattle.x86_subset.specs.Token.{is_blank, close_end, begins, spot, start, after_bytes};
 ghost use Rattle.litmus_reader.specs.Front.{line_len, words, is_x86, is_printed, name_of, first_line, is_key, is_star, quote_end, skip_to, item_at, rest_at, head};
 ghost use Rattle.litmus_reader.specs.Outcome.{Answers};
 
@@ -71,7 +71,7 @@ fn name_of<'a>(words: &[&'a [u8]]) -> Option<&'a [u8]>
 /// The test's name, and where the header begins.
 #[tactic(auto, unfolding(crate::specs::Front::first_line))]
 pub fn first_line(alloc: Global, bytes: &[u8]) -> Result<(Name, usize), LitmusError>
-    ensures is { Answers (λ x. (x.0, rest_at (after start (take x.1 bytes.now)) (drop x.1 bytes.now))) result (first_line bytes.now) }
+    ensures is { Answers (λ x. (x.0, rest_at (after_bytes start (take x.1 bytes.now)) (drop x.1 bytes.now))) result (first_line bytes.now) }
     ensures within { IfOk result (λ x. x.1 ≤ length bytes.now) }
 {
     let len = line_len(bytes);
@@ -167,11 +167,11 @@ pub fn head(bytes: &[u8], from: usize, line: u32, last: u32) -> Result<(usize, u
     requires few { length bytes.now ≤ 65536 }
     requires within { from ≤ length bytes.now }
     requires line { line ≤ from + 1 }
-    requires spot { spot from line ≡ after start (take from bytes.now) }
+    requires spot { spot from line ≡ after_bytes start (take from bytes.now) }
     ensures is { Answers (λ x. rest_at (spot x.0 x.1) (drop x.0 bytes.now)) result (head last 0 (spot from line) (drop from bytes.now)) }
     ensures some { IfOk result (λ x. 0 < x.0) }
     ensures within { IfOk result (λ x. x.0 ≤ length bytes.now) }
-    ensures spot { IfOk result (λ x. spot x.0 x.1 ≡ after start (take x.0 bytes.now)) }
+    ensures spot { IfOk result (λ x. spot x.0 x.1 ≡ after_bytes start (take x.0 bytes.now)) }
 {
     let mut line = line;
     let mut skip = 0;

@@ -5,7 +5,7 @@ ghost use Rattle.x86_subset.specs.Form.{lexemes};
 ghost use Rattle.litmus_reader.specs.Answer.{Answer, Accepted, last_line};
 ghost use Rattle.litmus_reader.specs.Outcome.{Answers};
 ghost use Rattle.litmus_reader.specs.Sheet.{names};
-ghost use Rattle.x86_subset.specs.Shape.{limited};
+ghost use Rattle.x86_subset.specs.Shape.{if_within_limits};
 ghost use Rattle.litmus_reader.specs.Reading.{Reads, tokens_at, sections_at, read_text};
 ghost use Rattle.litmus_reader.specs.Draft.{draft_of, IsFit, IsMade};
 ghost use Rattle.litmus_reader.specs.Answered.{IfAnswered, RefusesText};
@@ -79,7 +79,7 @@ fn names(alloc: Global, bytes: &[u8], spans: &[Span]) -> Result<Vec<Name>, NoMem
 /// The test, or the first limit that it passes.
 fn test_of(alloc: Global, bytes: &[u8], draft: Draft) -> Result<Test, LitmusError>
     requires { IsFit (draft_of bytes.now draft) }
-    ensures { IsMade result (limited (draft_of bytes.now draft)) }
+    ensures { IsMade result (if_within_limits (draft_of bytes.now draft)) }
 {
     let Draft {
         name,

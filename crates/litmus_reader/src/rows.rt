@@ -1,7 +1,7 @@
 // The rows of the code.
 ghost use Rattle.std.specs.Prelude.{ℕ, List, [], ◌≡◌, ◌==◌, ◌&&◌, ◌≤◌, ◌<◌, ◌+◌, length, map, position, bytes_eq, IfOk, OnOk, OnErr, Ok};
 ghost use Rattle.x86_subset.specs.Form.{lexeme_of, lexemes};
-ghost use Rattle.x86_subset.specs.Cell.{number_of, having};
+ghost use Rattle.x86_subset.specs.Cell.{location_number, having};
 ghost use Rattle.x86_subset.specs.Raw.{bytes_at, form_of};
 ghost use Rattle.litmus_reader.specs.Rows.{act, body_of, cell_at, cells_at, row_of, rows_at, ends_code, is_column, are_columns, no_code, columns_in, columns_at};
 ghost use Rattle.std.specs.List.{slice_split};
@@ -41,7 +41,7 @@ impl Sheet {
     /// The number of a location. A new one comes last.
     fn number(&mut self, bytes: &[u8], x: Span) -> Result<u32, AllocError>
         requires { length self.old.locations.items < 65536 }
-        ensures number { IfOk result (λ n. n ≡ number_of (names bytes.now self.old.locations.items) (bytes_at bytes.now x)) }
+        ensures number { IfOk result (λ n. n ≡ location_number (names bytes.now self.old.locations.items) (bytes_at bytes.now x)) }
         ensures locations { OnOk result (names bytes.now self.new.locations.items ≡ having (names bytes.now self.old.locations.items) (bytes_at bytes.now x)) }
         ensures bodies { self.new.bodies ≡ self.old.bodies }
         ensures room { length self.new.locations.items ≤ length self.old.locations.items + 1 }

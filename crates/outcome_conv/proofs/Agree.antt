@@ -19,6 +19,7 @@ use Rattle.seq_conv.specs.Sequence.{action_at, rank_of, store_count, stores_of, 
 use Rattle.seq_conv.specs.declared.site.Site.{Site}
 use Rattle.seq_conv.specs.Source.{in_iteration, is_memory_kind, is_memory_write, last_that, source_of, store_of}
 use Rattle.seq_conv.specs.declared.site.Origin.{Origin}
+use Rattle.seq_conv.proofs.Frames.{frame_each, frame_long}
 use Rattle.seq_conv.proofs.Lists.{among_from_contains, find_split, Among, any_filter, any_map, any_same, among_append_left, each_both, each_filter, each_from_among, each_passes, each_weaker, last_inner, last_ranged, range_any, take_while_split}
 use Rattle.seq_conv.proofs.Parts.{memory_writes, write_among}
 use Rattle.seq_conv.proofs.ReadEvents.{ReadAt, read_at}
@@ -440,14 +441,6 @@ pub conditions_agree_lem : ConditionsAgree
 conditions_agree_lem test n run frame atom kind h r f e = agrees_by test n run frame kind r f (kind_tells test atom kind h e)
 
 -- Counts.
-
-frame_long : (n t number : ℕ) → length (frame_of n t number) ≡ t
-frame_long n zero number = refl
-frame_long n (suc t) number = ap suc (frame_long n t number)
-
-frame_each : (n t number : ℕ) → 1 ≤ n → Each (λ i. i < n) (frame_of n t number)
-frame_each n zero number h = tt
-frame_each n (suc t) number h = (mod_below (number / n ^ t) n h, frame_each n t number h)
 
 pub frame_is : (test : LitmusTest) (n number : ℕ) → 1 ≤ n → IsFrame test n (frame_of n (length test.bodies) number)
 frame_is test n number h = record { one_each = frame_long n (length test.bodies) number; below = All-from_recursion (λ i. i < n) (frame_of n (length test.bodies) number) (frame_each n (length test.bodies) number h) }

@@ -17,7 +17,8 @@ use Rattle.profile_check.specs.declared.kind.AtomKind.{AtomKind}
 use Rattle.profile_check.specs.declared.kind.AtomKind.TheVariants.{Rf, Fr, Exact}
 use Rattle.profile_check.proofs.KindLemmas.{IsReader, Tells, kind_tells, named_by}
 use Rattle.outcome_conv.specs.declared.cond.CondKind.{CondKind}
-use Rattle.outcome_conv.specs.declared.cond.CondKind.TheVariants.{AtLeast, Below, Exact as Equal}
+use Rattle.outcome_conv.specs.declared.cond.CondKind.TheVariants.{AtLeast, Below}
+use Rattle.outcome_conv.specs.declared.cond.CondKind.TheVariants as cond_kind
 use Rattle.outcome_conv.specs.Choices.{choice_by, choice_in, choice_of, iteration_from, owner_choice, some_below, source_choice}
 use Rattle.outcome_conv.specs.Conds.{cond_of, logged_in}
 use Rattle.outcome_conv.specs.Holds.{first_in, location_read, reading_site, reads_before, source_at}
@@ -136,4 +137,4 @@ below_unless n m k false c h = below_if n m k c h
 pub choice_below : (n : ℕ) (kind : CondKind) (v k : ℕ) → choice_by n kind v ≡ Some k → k < n
 choice_below n (AtLeast k a) v m h = below_unless n ((v - 1) / k) m (v == 0) ((v - 1) % k + 1 == a) h
 choice_below n (Below k) v m h = below_by n ((v + k - 1) / k) m (nat_lt ((v + k - 1) / k) n) refl h
-choice_below n (Equal k a) v m h = below_unless n ((v - 1) / k) m (v == 0) ((v - 1) % k + 1 == a) h
+choice_below n (cond_kind.Exact k a) v m h = below_unless n ((v - 1) / k) m (v == 0) ((v - 1) % k + 1 == a) h

@@ -21,7 +21,8 @@ use Rattle.profile_check.specs.declared.kind.AtomKind.{AtomKind}
 use Rattle.profile_check.specs.declared.kind.AtomKind.TheVariants.{Rf, Fr, Exact}
 use Rattle.profile_check.proofs.KindLemmas.{IsReader, Tells, kind_tells, named_by}
 use Rattle.outcome_conv.specs.declared.cond.Cond.{Cond}
-use Rattle.outcome_conv.specs.declared.cond.CondKind.TheVariants.{AtLeast, Below, Exact as Equal}
+use Rattle.outcome_conv.specs.declared.cond.CondKind.TheVariants.{AtLeast, Below}
+use Rattle.outcome_conv.specs.declared.cond.CondKind.TheVariants as cond_kind
 use Rattle.outcome_conv.specs.Conditions.{AreConditions, IsOfTest}
 use Rattle.outcome_conv.specs.Conds.{cond_of, conds_of}
 use Rattle.outcome_conv.specs.Holds.{location_read, reading_places}
@@ -130,7 +131,7 @@ fr_is test kind t column w loc k e l m = rw (e, l, m) refl
 
 pub exact_is : (test : LitmusTest) (kind : AtomKind) (t column w p loc k a : ℕ) → kind ≡ Exact t column w p → loc ≡ location_read test t column
     → k ≡ store_count test (location_read test t column) → a ≡ rank_of test (location_read test t column) (record { thread = w; place = p })
-    → record { reader = t; column = column; loc = loc; writer = w; kind = Equal k a } ≡ cond_of test kind
+    → record { reader = t; column = column; loc = loc; writer = w; kind = cond_kind.Exact k a } ≡ cond_of test kind
 exact_is test kind t column w p loc k a e l m n = rw (e, l, m, n) refl
 
 -- the conditions of all atoms

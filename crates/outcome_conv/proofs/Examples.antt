@@ -24,7 +24,8 @@ use Rattle.profile_check.specs.Kinds.{AreKinds, kind_of}
 use Rattle.profile_check.specs.declared.kind.AtomKind.{AtomKind}
 use Rattle.profile_check.specs.declared.kind.AtomKind.TheVariants.{Rf, Fr, Exact}
 use Rattle.profile_check.specs.declared.kind.ProfileKind.TheVariants.{NoSuchThread, NotLoaded, NoStore, Ambiguous, ZeroStored, NoWriter, SeveralWriters, OwnWriter}
-use Rattle.outcome_conv.specs.declared.cond.CondKind.TheVariants.{AtLeast, Below, Exact as Equal}
+use Rattle.outcome_conv.specs.declared.cond.CondKind.TheVariants.{AtLeast, Below}
+use Rattle.outcome_conv.specs.declared.cond.CondKind.TheVariants as cond_kind
 use Rattle.outcome_conv.specs.Conds.{Logged, cond_holds, cond_of, conds_of, count_of, kind_holds, logged_in}
 use Rattle.outcome_conv.specs.Hits.{hits_of}
 use Rattle.outcome_conv.specs.Holds.{holds_in}
@@ -71,7 +72,7 @@ are_mp_kinds : AreKinds mp mp_kinds
 are_mp_kinds = (refl, (refl, tt))
 
 -- the exact atom asks for 1*m + 1
-exact_of_mp : (cond_of mp (Exact 1 0 0 1)).kind ≡ Equal 1 1
+exact_of_mp : (cond_of mp (Exact 1 0 0 1)).kind ≡ cond_kind.Exact 1 1
 exact_of_mp = refl
 
 -- each thread reads what it stores
@@ -130,7 +131,7 @@ zero_stored = refl
 at_least : (map (λ v. kind_holds (AtLeast 2 1) v 0) (0 ∷ 1 ∷ 2 ∷ 3 ∷ 4 ∷ []) ≡ false ∷ true ∷ false ∷ true ∷ false ∷ []) × (map (λ v. kind_holds (AtLeast 2 1) v 1) (0 ∷ 1 ∷ 2 ∷ 3 ∷ 4 ∷ []) ≡ false ∷ false ∷ false ∷ true ∷ false ∷ [])
 at_least = (refl, refl)
 
-equal : (map (λ v. kind_holds (Equal 2 1) v 0) (0 ∷ 1 ∷ 2 ∷ 3 ∷ 4 ∷ []) ≡ false ∷ true ∷ false ∷ false ∷ false ∷ []) × (map (λ v. kind_holds (Equal 2 1) v 1) (0 ∷ 1 ∷ 2 ∷ 3 ∷ 4 ∷ []) ≡ false ∷ false ∷ false ∷ true ∷ false ∷ [])
+equal : (map (λ v. kind_holds (cond_kind.Exact 2 1) v 0) (0 ∷ 1 ∷ 2 ∷ 3 ∷ 4 ∷ []) ≡ false ∷ true ∷ false ∷ false ∷ false ∷ []) × (map (λ v. kind_holds (cond_kind.Exact 2 1) v 1) (0 ∷ 1 ∷ 2 ∷ 3 ∷ 4 ∷ []) ≡ false ∷ false ∷ false ∷ true ∷ false ∷ [])
 equal = (refl, refl)
 
 below_two : (kind_holds (Below 2) 2 0 ≡ false) × (kind_holds (Below 2) 2 1 ≡ true) × (kind_holds (Below 2) 3 1 ≡ false) × (kind_holds (Below 2) 0 0 ≡ true)

@@ -11,7 +11,8 @@ use Rattle.profile_check.specs.declared.kind.AtomKind.{AtomKind}
 use Rattle.profile_check.specs.declared.kind.AtomKind.TheVariants.{Rf, Fr, Exact}
 use Rattle.outcome_conv.specs.declared.cond.Cond.{Cond}
 use Rattle.outcome_conv.specs.declared.cond.CondKind.{CondKind}
-use Rattle.outcome_conv.specs.declared.cond.CondKind.TheVariants.{AtLeast, Below, Exact as Equal}
+use Rattle.outcome_conv.specs.declared.cond.CondKind.TheVariants.{AtLeast, Below}
+use Rattle.outcome_conv.specs.declared.cond.CondKind.TheVariants as cond_kind
 use Rattle.outcome_conv.specs.Conds.{Logged}
 use Rattle.outcome_conv.specs.Holds.{first_in, location_read, reading_site, reads_before, source_at}
 
@@ -44,7 +45,7 @@ owner_choice n k a value = if value == 0 then None else if (value - 1) % k + 1 =
 abbrev pub choice_by : ℕ → CondKind → ℕ → Option ℕ
 choice_by n (AtLeast k a) value = owner_choice n k a value
 choice_by n (Below k) value = some_below n ((value + k - 1) / k)
-choice_by n (Equal k a) value = owner_choice n k a value
+choice_by n (cond_kind.Exact k a) value = owner_choice n k a value
 
 -- the choice of a condition by the logged values
 abbrev pub choice_of : Logged → ℕ → Cond → ℕ → Option ℕ

@@ -15,7 +15,7 @@ use Rattle.x86_subset.specs.declared.instr.Instr.{Instr}
 use Rattle.x86_subset.specs.declared.instr.Instr.TheVariants.{Store, Load, Fence, Exchange}
 use Rattle.seq_conv.specs.declared.number.Number.{Number}
 use Rattle.seq_conv.specs.Sequence.{Site, value_of, same_site, action_at, stores_in_body, stores_in_bodies, stores_of, store_count, rank_of}
-use Rattle.seq_conv.specs.Numbers.{AreOf, IsOwner, IsSmall, Table, number_at, number_of, owner_among, row_of, stores_at, numbers_in_body, numbers_in_bodies}
+use Rattle.seq_conv.specs.Numbers.{AreOf, IsOwner, IsSmall, Table, number_at, action_number, owner_among, row_of, stores_at, numbers_in_body, numbers_in_bodies}
 use Rattle.seq_conv.specs.Source.{Origin, in_iteration}
 use Rattle.seq_conv.proofs.Lists.{Among, among_from_contains, at_place}
 use Rattle.seq_conv.proofs.Stores.{one_owner, rank_at, rank_injective, rank_within, store_at}
@@ -134,14 +134,14 @@ stores_goes test x t old new whole body lt e n w =
 -- the numbers of one action more
 pub numbers_goes : (test : LitmusTest) (t p : ℕ) (old new whole : List Number) (body : List Instr) (action d : Instr) → p < length body →
     action ≡ get_or body p d →
-    new ≡ old ++ number_of test (record { thread = t; place = p }) action ∷ [] → old ++ numbers_in_body test t p (drop p body) ≡ whole →
+    new ≡ old ++ action_number test (record { thread = t; place = p }) action ∷ [] → old ++ numbers_in_body test t p (drop p body) ≡ whole →
     new ++ numbers_in_body test t (p + 1) (drop (p + 1) body) ≡ whole
 numbers_goes test t p old new whole body action d lt e n w =
     let s = next_item body p lt in
     let b : action ≡ s.here = e ∙ get_or_from_slice_get body p s.here d s.at in
     let left = numbers_in_body test t (p + 1) (drop (p + 1) body) in
-    ap (λ l. l ++ left) n ∙ ap (λ a. (old ++ number_of test (record { thread = t; place = p }) a ∷ []) ++ left) b
-    ∙ append_assoc old (number_of test (record { thread = t; place = p }) s.here ∷ []) left
+    ap (λ l. l ++ left) n ∙ ap (λ a. (old ++ action_number test (record { thread = t; place = p }) a ∷ []) ++ left) b
+    ∙ append_assoc old (action_number test (record { thread = t; place = p }) s.here ∷ []) left
     ∙ ap (λ l. old ++ numbers_in_body test t p l) (sym s.cut) ∙ w
 
 -- the numbers of one thread more
@@ -174,16 +174,16 @@ row_in_bodies test t zero u (code ∷ codes) e = ap (λ v. numbers_in_body test 
 row_in_bodies test t (suc i) u (code ∷ codes) e = row_in_bodies test (t + 1) i u codes (omega arith)
 
 number_in_body : (test : LitmusTest) (t p q r : ℕ) (body : List Instr) (action : Instr) → slice_get body q ≡ Some action → r ≡ p + q →
-    slice_get (numbers_in_body test t p body) q ≡ Some (number_of test (record { thread = t; place = r }) action)
+    slice_get (numbers_in_body test t p body) q ≡ Some (action_number test (record { thread = t; place = r }) action)
 number_in_body test t p q r [] action at e = cc
 number_in_body test t p zero r (a ∷ body) action at e =
     let m : p ≡ r = omega arith in
     let n : a ≡ action = cc in
-    λ i. Some (number_of test (record { thread = t; place = m i }) (n i))
+    λ i. Some (action_number test (record { thread = t; place = m i }) (n i))
 number_in_body test t p (suc q) r (a ∷ body) action at e = number_in_body test t (p + 1) q r body action at (omega arith)
 
 number_of_store : (test : LitmusTest) (site : Site) (x : ℕ) (action : Instr) → is_store_to x action ≡ true →
-    number_of test site action ≡ record { k = store_count test x; a = rank_of test x site }
+    action_number test site action ≡ record { k = store_count test x; a = rank_of test x site }
 number_of_store test site x (Store loc written) h = ap (λ y. record { k = store_count test y; a = rank_of test y site }) (eqb-true loc x h)
 number_of_store test site x (Load reg loc) h = cc
 number_of_store test site x Fence h = cc

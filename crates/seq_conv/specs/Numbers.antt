@@ -65,16 +65,16 @@ pub record IsOwner (test : LitmusTest) (x v : ℕ) (owner : Option Origin) : Typ
 -- The numbers of the actions of a test, one by one.
 
 -- the numbers of an action at a site; zeros where it is no store
-abbrev pub number_of : LitmusTest → Site → Instr → Number
-number_of test site (Store loc written) = record { k = store_count test loc; a = rank_of test loc site }
-number_of test site (Load reg loc) = record { k = 0; a = 0 }
-number_of test site Fence = record { k = 0; a = 0 }
-number_of test site (Exchange loc written reg) = record { k = store_count test loc; a = rank_of test loc site }
+abbrev pub action_number : LitmusTest → Site → Instr → Number
+action_number test site (Store loc written) = record { k = store_count test loc; a = rank_of test loc site }
+action_number test site (Load reg loc) = record { k = 0; a = 0 }
+action_number test site Fence = record { k = 0; a = 0 }
+action_number test site (Exchange loc written reg) = record { k = store_count test loc; a = rank_of test loc site }
 
 -- the numbers of a body of thread t whose first action has place p
 abbrev pub numbers_in_body : LitmusTest → ℕ → ℕ → List Instr → List Number
 numbers_in_body test t p [] = []
-numbers_in_body test t p (action ∷ actions) = number_of test (record { thread = t; place = p }) action ∷ numbers_in_body test t (p + 1) actions
+numbers_in_body test t p (action ∷ actions) = action_number test (record { thread = t; place = p }) action ∷ numbers_in_body test t (p + 1) actions
 
 -- the numbers of bodies of which the first is thread t
 abbrev pub numbers_in_bodies : LitmusTest → ℕ → List Code → List (List Number)

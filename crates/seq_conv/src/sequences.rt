@@ -5,7 +5,7 @@ ghost use Rattle.x86_subset.specs.Instr.{is_store_to, location_of};
 ghost use Rattle.x86_subset.specs.Test.{LitmusTest, body_of};
 ghost use Rattle.x86_subset.specs.Shape.{IsTest};
 ghost use Rattle.seq_conv.specs.Sequence.{action_at, same_site, stores_in_body, stores_of};
-ghost use Rattle.seq_conv.specs.Numbers.{IsSmall, number_of, numbers_in_body, numbers_in_bodies, owner_among};
+ghost use Rattle.seq_conv.specs.Numbers.{IsSmall, action_number, numbers_in_body, numbers_in_bodies, owner_among};
 
 use crate::number::Number;
 use crate::site::{Origin, Site};
@@ -106,12 +106,12 @@ fn number_among(stores: &[Site], site: Site) -> Number
 }
 
 /// The numbers of an action at a site. `stores` are those of each location.
-fn number_of(test: &Test, action: Instr, site: Site, stores: &[Vec<Site>]) -> Number
+fn action_number(test: &Test, action: Instr, site: Site, stores: &[Vec<Site>]) -> Number
     requires test { IsTest test.now }
     requires located { IfSome (location_of action) (λ x. x < length test.now.locations) }
     requires site { action_at test.now site ≡ Some action }
     requires stores { map (λ row. row.items) stores.now ≡ map (stores_of test.now) (range_with_len 0 (length test.now.locations)) }
-    ensures is { result ≡ number_of test.now site action }
+    ensures is { result ≡ action_number test.now site action }
     ensures small { IsSmall result }
 {
     match action {
@@ -141,7 +141,7 @@ fn row_of(
             thread: thread as u32,
             place: place as u32,
         };
-        row.push(number_of(test, body[place], site, stores))?;
+        row.push(action_number(test, body[place], site, stores))?;
     }
     Ok(row)
 }

@@ -145,8 +145,8 @@ abbrev pub place_in : List (List ℕ) → List ℕ → Option ℕ
 place_in xs x = position (λ y. bytes_eq y x) xs
 
 -- a location's number, and the locations with it: a new one comes last
-abbrev pub number_of : List (List ℕ) → List ℕ → ℕ
-number_of xs x = number_by (place_in xs x) (length xs)
+abbrev pub location_number : List (List ℕ) → List ℕ → ℕ
+location_number xs x = number_by (place_in xs x) (length xs)
 
 -- the locations with this one
 abbrev pub having : List (List ℕ) → List ℕ → List (List ℕ)
@@ -161,11 +161,11 @@ with_constant (held.Read place) f = None
 abbrev pub code_after : List (List ℕ) → Form → Code → Option Code
 code_after xs Blank code = Some code
 code_after xs Fence code = Some (adding code instr.Fence)
-code_after xs (StoreNumber x n) code = Some (adding code (instr.Store (number_of xs x) n))
-code_after xs (StoreRegister x r) code = with_constant (held_by code r) (λ n. adding code (instr.Store (number_of xs x) n))
-code_after xs (Load r x) code = Some (reading code r (instr.Load r (number_of xs x)))
+code_after xs (StoreNumber x n) code = Some (adding code (instr.Store (location_number xs x) n))
+code_after xs (StoreRegister x r) code = with_constant (held_by code r) (λ n. adding code (instr.Store (location_number xs x) n))
+code_after xs (Load r x) code = Some (reading code r (instr.Load r (location_number xs x)))
 code_after xs (Constant r n) code = Some (holding code r (held.Constant n))
-code_after xs (Exchange x r) code = with_constant (held_by code r) (λ n. reading code r (instr.Exchange (number_of xs x) n r))
+code_after xs (Exchange x r) code = with_constant (held_by code r) (λ n. reading code r (instr.Exchange (location_number xs x) n r))
 
 -- the locations with the one that a form names
 abbrev pub locations_after : List (List ℕ) → Form → List (List ℕ)

@@ -70,12 +70,12 @@ abbrev pub spelled_number : List ℕ → ℕ
 spelled_number digits = fold (λ n b. n * 10 + (b - 48)) 0 digits
 
 -- and 2^32 for any larger one
-abbrev pub value_of : List ℕ → ℕ
-value_of digits = min (spelled_number digits) (2 ^ 32)
+abbrev pub capped_number : List ℕ → ℕ
+capped_number digits = min (spelled_number digits) (2 ^ 32)
 
 -- the value of a token of digits
 abbrev pub value : Lexeme → ℕ
-value t = value_of t.spelled
+value t = capped_number t.spelled
 
 -- a mnemonic's letters
 abbrev pub letters : Keyword → List ℕ

@@ -26,8 +26,8 @@ limited_by None test = Ok test
 limited_by (Some limit) test = Err limit
 
 -- a test within the limits, or the first one that it passes
-abbrev pub limited : LitmusTest → Result LitmusTest Shape
-limited test = limited_by (limit_of test) test
+abbrev pub if_within_limits : LitmusTest → Result LitmusTest Shape
+if_within_limits test = limited_by (limit_of test) test
 
 -- the actions name locations below this number
 abbrev pub IsLocated : ℕ → List Instr → Type 0

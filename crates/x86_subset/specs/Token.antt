@@ -57,9 +57,9 @@ abbrev pub after_byte : Spot → ℕ → Spot
 after_byte at b = spot (at.place + 1) (line_after at.line b)
 
 -- behind these bytes
-abbrev pub after : Spot → List ℕ → Spot
-after at [] = at
-after at (b ∷ bs) = after (after_byte at b) bs
+abbrev pub after_bytes : Spot → List ℕ → Spot
+after_bytes at [] = at
+after_bytes at (b ∷ bs) = after_bytes (after_byte at b) bs
 
 -- ---- tokens
 
@@ -107,17 +107,17 @@ pub data Lexes : Spot → List ℕ → List Lexeme → Type 0 where
   blank : {at : Spot} {b : ℕ} {rest : List ℕ} {ts : List Lexeme} → IsTrue (is_blank b) → Lexes (after_byte at b) rest ts → Lexes at (b ∷ rest) ts
   -- a comment, to its first end
   comment : {at : Spot} (inside rest : List ℕ) {ts : List Lexeme} → IsFalse (closes inside)
-      → Lexes (after at (40 ∷ 42 ∷ (inside ++ 42 ∷ 41 ∷ []))) rest ts → Lexes at (40 ∷ 42 ∷ (inside ++ 42 ∷ 41 ∷ rest)) ts
+      → Lexes (after_bytes at (40 ∷ 42 ∷ (inside ++ 42 ∷ 41 ∷ []))) rest ts → Lexes at (40 ∷ 42 ∷ (inside ++ 42 ∷ 41 ∷ rest)) ts
   -- a name, as long as it goes on
   name : {at : Spot} {b : ℕ} (more rest : List ℕ) {ts : List Lexeme} → IsTrue (is_head b) → IsTrue (list_all is_tail more) → IsFalse (begins is_tail rest)
-      → Lexes (after at (b ∷ more)) rest ts → Lexes at (b ∷ (more ++ rest)) (lexeme Name (b ∷ more) at ∷ ts)
+      → Lexes (after_bytes at (b ∷ more)) rest ts → Lexes at (b ∷ (more ++ rest)) (lexeme Name (b ∷ more) at ∷ ts)
   -- a number, as long as it goes on
   number : {at : Spot} {b : ℕ} (more rest : List ℕ) {ts : List Lexeme} → IsTrue (is_digit b) → IsTrue (list_all is_digit more) → IsFalse (begins is_digit rest)
-      → Lexes (after at (b ∷ more)) rest ts → Lexes at (b ∷ (more ++ rest)) (lexeme Number (b ∷ more) at ∷ ts)
+      → Lexes (after_bytes at (b ∷ more)) rest ts → Lexes at (b ∷ (more ++ rest)) (lexeme Number (b ∷ more) at ∷ ts)
   -- `/\`
-  both : {at : Spot} {rest : List ℕ} {ts : List Lexeme} → Lexes (after at (47 ∷ 92 ∷ [])) rest ts → Lexes at (47 ∷ 92 ∷ rest) (lexeme Both (47 ∷ 92 ∷ []) at ∷ ts)
+  both : {at : Spot} {rest : List ℕ} {ts : List Lexeme} → Lexes (after_bytes at (47 ∷ 92 ∷ [])) rest ts → Lexes at (47 ∷ 92 ∷ rest) (lexeme Both (47 ∷ 92 ∷ []) at ∷ ts)
   -- `\/`
-  either : {at : Spot} {rest : List ℕ} {ts : List Lexeme} → Lexes (after at (92 ∷ 47 ∷ [])) rest ts → Lexes at (92 ∷ 47 ∷ rest) (lexeme Either (92 ∷ 47 ∷ []) at ∷ ts)
+  either : {at : Spot} {rest : List ℕ} {ts : List Lexeme} → Lexes (after_bytes at (92 ∷ 47 ∷ [])) rest ts → Lexes at (92 ∷ 47 ∷ rest) (lexeme Either (92 ∷ 47 ∷ []) at ∷ ts)
   -- one symbol, or any other byte
   single : {at : Spot} {b : ℕ} {rest : List ℕ} {ts : List Lexeme} → IsTrue (is_single b) → IsFalse (is_pair b rest)
       → Lexes (after_byte at b) rest ts → Lexes at (b ∷ rest) (lexeme (sign b) (b ∷ []) at ∷ ts)
@@ -184,4 +184,4 @@ tokens_from skip at text = map token_of (lex skip at text)
 
 -- the tokens of a text from a place on
 abbrev pub tokens_of : List ℕ → ℕ → List Token
-tokens_of text from = tokens_from 0 (after start (take from text)) (drop from text)
+tokens_of text from = tokens_from 0 (after_bytes start (take from text)) (drop from text)

@@ -1,7 +1,7 @@
 // The forms that tokens may have.
 ghost use Rattle.std.specs.Prelude.{ℕ, List, ◌≡◌, ◌==◌, ◌≤◌, ◌<◌, ◌+◌, ◌-◌, ◌^◌, length, take, drop, map, min, Result, Ok, Err, Some, None, option_map, if◌then◌else◌};
 ghost use Rattle.std.specs.List.{list_all, zip};
-ghost use Rattle.x86_subset.specs.Form.{is, is_keyword, is_location, register_named, number_in, small_number_in, place_of, kind_code, capital, register_of, letters, value, value_of, spells, fill, may_miss, fit, lexeme_of, lexemes, found_of, nothing_found, nothing_at, whole, Fills, fill_first, Gives};
+ghost use Rattle.x86_subset.specs.Form.{is, is_keyword, is_location, register_named, number_in, small_number_in, place_of, kind_code, capital, register_of, letters, value, capped_number, spells, fill, may_miss, fit, lexeme_of, lexemes, found_of, nothing_found, nothing_at, whole, Fills, fill_first, Gives};
 
 use crate::instr::Reg;
 use crate::token::{Token, TokenKind};
@@ -122,7 +122,7 @@ fn letters(word: Keyword) -> &'static [u8]
 
 /// The value of digits, or 2^32 for any larger one.
 fn value(digits: &[u8]) -> u64
-    ensures { result ≡ value_of digits.now }
+    ensures { result ≡ capped_number digits.now }
 {
     let mut value = 0;
     for b in digits {

@@ -1,7 +1,7 @@
 // Cuts a text into tokens.
 ghost use Rattle.std.specs.Prelude.{◌≡◌, ◌≤◌, ◌<◌, ◌+◌, ◌==◌, ◌++◌, length, take, drop, slice_index, IfOk, IfSome, IsTrue};
 ghost use Rattle.std.specs.List.{prefix_len};
-ghost use Rattle.x86_subset.specs.Token.{is_blank, is_digit, is_letter, is_head, is_tail, begins, ends_comment, sign, is_pair, close_end, pair_cut, cut_at, NoEnd, spot, line_after, after_byte, after, start, tokens_from, tokens_of};
+ghost use Rattle.x86_subset.specs.Token.{is_blank, is_digit, is_letter, is_head, is_tail, begins, ends_comment, sign, is_pair, close_end, pair_cut, cut_at, NoEnd, spot, line_after, after_byte, after_bytes, start, tokens_from, tokens_of};
 
 use crate::token::{Cut, Token, TokenKind};
 use perp_base::NoMemory;
@@ -213,7 +213,7 @@ pub fn next_line(line: u32, b: u8) -> u32
 /// The number of the line of the byte behind these bytes at the front of a text, from 1.
 pub fn line_behind(bytes: &[u8]) -> u32
     requires { length bytes.now ≤ 65536 }
-    ensures { result ≡ (after start bytes.now).line }
+    ensures { result ≡ (after_bytes start bytes.now).line }
 {
     let mut line = 1;
     for b in bytes {

@@ -89,7 +89,7 @@ impl Test {
     ghost use Rattle.std.specs.Prelude.{Ok, Err};
     ghost use Rattle.x86_subset.specs.Conjunctions.{AreEnds, from_of, to_of};
     ghost use Rattle.x86_subset.specs.Test.{body_of, columns_of, column_at, last_writer_of};
-    ghost use Rattle.x86_subset.specs.Shape.{AreLocated, IsTest, limited};
+    ghost use Rattle.x86_subset.specs.Shape.{AreLocated, IsTest, if_within_limits};
 
     /// The test of these parts, or the first limit that they pass. `ends` has for each conjunction the number of
     /// all atoms up to its end. On refusal the parts are dropped. Takes no memory.
@@ -106,7 +106,7 @@ impl Test {
         requires atoms { 1 ≤ length atoms.items }
         requires located { AreLocated (length locations.items) bodies.items }
         requires ends { AreEnds ends.items (length atoms.items) }
-        ensures { result ≡ limited (record { name = name; locations = locations.items; bodies = bodies.items; quantifier = quantifier; atoms = atoms.items; ends = ends.items }) }
+        ensures { result ≡ if_within_limits (record { name = name; locations = locations.items; bodies = bodies.items; quantifier = quantifier; atoms = atoms.items; ends = ends.items }) }
     {
         if bodies.len() > 8 {
             return Err(Shape::Threads);

@@ -1,9 +1,9 @@
 use Rattle.std.proofs.Common.{◌≡◌, ◌<◌, Vec, Global, IfSome, length, refl, sym, ap, subst, ◌∙◌, arith, eq-eqb, Some}
 use Rattle.x86_subset.specs.Instr.{location_of}
 use Rattle.seq_conv.specs.Sequence.{Site, rank_of, store_count, stores_of}
-use Rattle.seq_conv.specs.Numbers.{number_of}
+use Rattle.seq_conv.specs.Numbers.{action_number}
 use Rattle.seq_conv.proofs.Numbering.{length_of_numbers, list_at_number, number_is, number_small, small_as}
-use Rattle.seq_conv.proofs.sequences.number_of.Goals as goal
+use Rattle.seq_conv.proofs.sequences.action_number.Goals as goal
 
 pub bounds-stores-loc : goal.bounds-stores-loc
 bounds-stores-loc c =
@@ -31,10 +31,10 @@ exchange_is c =
     c.number_among-in-Exchange.ensures.k c.number_among-in-Exchange.ensures.a
 
 pub returns-in-Store-clause-is : goal.returns-in-Store-clause-is
-returns-in-Store-clause-is c = store_is c ∙ sym (ap (number_of c.args.test.now c.args.site) c.in-Store.is)
+returns-in-Store-clause-is c = store_is c ∙ sym (ap (action_number c.args.test.now c.args.site) c.in-Store.is)
 
 pub returns-in-Exchange-clause-is : goal.returns-in-Exchange-clause-is
-returns-in-Exchange-clause-is c = exchange_is c ∙ sym (ap (number_of c.args.test.now c.args.site) c.in-Exchange.is)
+returns-in-Exchange-clause-is c = exchange_is c ∙ sym (ap (action_number c.args.test.now c.args.site) c.in-Exchange.is)
 
 pub returns-in-Store-clause-small : goal.returns-in-Store-clause-small
 returns-in-Store-clause-small c =
