@@ -51,6 +51,35 @@ fn a_sink_in_memory_takes_pieces_and_fails_at_its_numbers(rt: HostRuntime) -> Re
     Ok(())
 }
 
+// How many bytes there are, how many of them a call moves, and how many calls move them.
+const CALLS: [(usize, usize, u64); 5] = [(0, 4, 0), (4, 4, 1), (6, 4, 2), (6, 1, 6), (6, 9, 1)];
+
+/// An input is read by one call for each piece of it and one that finds its end, and a text is written by one call for each
+/// piece: the call after those is the first that fails.
+#[test]
+fn each_piece_takes_one_call(rt: HostRuntime) -> Result<(), Fail> {
+    let alloc = rt.alloc();
+    for (len, most, calls) in CALLS {
+        let bytes = &b"abcdef"[..len];
+        let mut source = MemSource::new(alloc, bytes, most, &[calls + 2])?;
+        let read = read_input(alloc, &mut source, 6).map(|bytes| bytes.len());
+        assert_eq!(rt; read, Ok(len), "reading {len} by {most}");
+        assert_eq!(rt;
+            source.read(&mut [0u8; 1]),
+            Err(Failed),
+            "reading {len} by {most}"
+        );
+        let mut sink = MemSink::new(alloc, 9, most, &[calls + 1])?;
+        assert_eq!(rt;
+            write_whole(&mut sink, bytes),
+            Ok(()),
+            "writing {len} by {most}"
+        );
+        assert_eq!(rt; sink.write(b"g"), Err(Failed), "writing {len} by {most}");
+    }
+    Ok(())
+}
+
 #[derive(Drop)]
 struct Broken;
 
