@@ -1,30 +1,34 @@
 //! The store buffer of one thread.
-ghost use Rattle.std.specs.Prelude.{◌≡◌, ℕ, ◌+◌, ◌<◌, ◌≤◌, ◌↔◌, [], ◌∷◌, ◌++◌, length, drop, slice_get, IsOk, OnOk, OnErr, IfErr, IsTrue, false};
+ghost use Rattle.std.specs.Prelude.{◌≡◌, ℕ, ◌+◌, ◌<◌, ◌≤◌, ◌↔◌, [], ◌∷◌, ◌++◌, length, drop, slice_get, Some, IsOk, OnOk, OnErr, IfErr, IsTrue, false};
 ghost use Rattle.store_buffer.specs.Contents.{newest_value};
 
 use crate::entry::Entry;
-use arrayvec::ArrayVec;
 use std::marker::Model;
 
 /// How many writes a buffer can hold at most.
 const MOST_ENTRIES: usize = 16;
 
-/// The writes of one thread that memory has not seen yet, oldest first; at most as many as its capacity, which is 1 to 16.
+/// The writes of one thread that memory has not seen yet, oldest first; at most as many as its capacity, which is 1 to 16. They stand in a
+/// ring of slots, so that no write moves when the oldest one leaves.
 #[derive(Drop)]
 pub struct Buffer {
     capacity: u32,
-    entries: ArrayVec<Entry, MOST_ENTRIES>,
+    // The slot of the oldest write, and how many writes stand from there on; behind the last slot comes the first.
+    oldest: usize,
+    len: usize,
+    slots: [Entry; MOST_ENTRIES],
 }
 
 impl Model for Buffer {
-    ghost use Rattle.std.specs.Prelude.{ℕ, ◌≤◌, length};
+    ghost use Rattle.std.specs.Prelude.{ℕ};
     ghost use Rattle.store_buffer.specs.Contents.{Contents};
+    ghost use Rattle.store_buffer.specs.Ring.{window, IsRing};
 
     ghost Value = { Contents };
 
-    ghost view = { λ a. record { capacity = a.capacity; entries = a.entries.items } };
+    ghost view = { λ a. record { capacity = a.capacity; entries = window a.oldest a.len a.slots } };
 
-    ghost invariant = { λ a. (1 ≤ a.capacity) × (a.capacity ≤ 16) × (length a.entries.items ≤ a.capacity) };
+    ghost invariant = { λ a. IsRing a.capacity a.oldest a.len a.slots };
 }
 
 impl Buffer {
@@ -36,7 +40,9 @@ impl Buffer {
     {
         Buffer {
             capacity,
-            entries: ArrayVec::new(),
+            oldest: 0,
+            len: 0,
+            slots: [Entry::default(); MOST_ENTRIES],
         }
     }
 
@@ -48,19 +54,32 @@ impl Buffer {
         ensures full { OnErr result (length self.old.entries ≡ self.old.capacity) }
         ensures given_back { IfErr result (λ e. e ≡ entry) }
     {
-        if self.entries.len() < self.capacity as usize {
-            self.entries.push(entry);
+        if self.len < self.capacity as usize {
+            self.slots[(self.oldest + self.len) % MOST_ENTRIES] = entry;
+            self.len += 1;
             Ok(())
         } else {
             Err(entry)
         }
     }
 
+    /// The write with this number, counted from the oldest.
+    fn at(&self, i: usize) -> Entry
+        requires there { i < length self.now.entries }
+        ensures { slice_get self.now.entries i ≡ Some result }
+    {
+        self.slots[(self.oldest + i) % MOST_ENTRIES]
+    }
+
     /// The oldest write; None where the buffer is empty.
     pub fn oldest(&self) -> Option<Entry>
         ensures { result ≡ slice_get self.now.entries 0 }
     {
-        self.entries.as_slice().first().copied()
+        if self.len == 0 {
+            None
+        } else {
+            Some(self.slots[self.oldest])
+        }
     }
 
     /// Takes the oldest write out; None where the buffer is empty.
@@ -68,24 +87,23 @@ impl Buffer {
         ensures oldest { result ≡ slice_get self.old.entries 0 }
         ensures rest { self.new ≡ record self.old { entries = drop 1 self.old.entries } }
     {
-        if self.entries.is_empty() {
-            None
-        } else {
-            Some(self.entries.remove(0))
-        }
+        let oldest = self.oldest()?;
+        self.oldest = (self.oldest + 1) % MOST_ENTRIES;
+        self.len -= 1;
+        Some(oldest)
     }
 
     /// The value of the newest write to a location; None where no write to it waits.
     pub fn newest_for(&self, loc: u32) -> Option<u64>
         ensures { result ≡ newest_value loc self.now.entries }
     {
-        let mut newest = None;
-        for entry in self.entries.as_slice() {
+        for i in (0..self.len()).rev() {
+            let entry = self.at(i);
             if entry.loc == loc {
-                newest = Some(entry.value);
+                return Some(entry.value);
             }
         }
-        newest
+        None
     }
 
     /// How many writes there may be.
@@ -103,14 +121,14 @@ impl Buffer {
         ensures fits { result ≤ self.now.capacity }
         ensures few { self.now.capacity ≤ 16 }
     {
-        self.entries.len()
+        self.len
     }
 
     /// Whether no write waits.
     pub fn is_empty(&self) -> bool
         ensures { IsTrue result ↔ (self.now.entries ≡ []) }
     {
-        self.entries.is_empty()
+        self.len() == 0
     }
 
     /// Whether a push would be refused.
@@ -118,6 +136,6 @@ impl Buffer {
         ensures full { IsTrue result ↔ (length self.now.entries ≡ self.now.capacity) }
         ensures room { result ≡ false → length self.now.entries < self.now.capacity }
     {
-        self.entries.len() == self.capacity as usize
+        self.len() == self.capacity as usize
     }
 }

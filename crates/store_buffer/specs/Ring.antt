@@ -1,0 +1,15 @@
+-- Items in a ring of slots, where behind the last slot comes the first: a queue in sequential storage, as in Knuth, "The Art of Computer
+-- Programming", volume 1, section 2.2.2.
+use Rattle.std.specs.Prelude.{◌≡◌, ℕ, ◌<◌, ◌≤◌, List, ◌++◌, length, take, drop}
+
+-- the items of so many slots, from a slot on
+abbrev pub window : {A : Type 0} → ℕ → ℕ → List A → List A
+window oldest len slots = take len (drop oldest slots ++ take oldest slots)
+
+-- there are 16 slots, of which as many hold items as the capacity allows
+pub record IsRing {A : Type 0} (capacity oldest len : ℕ) (slots : List A) : Type 0 where
+  pub low : 1 ≤ capacity
+  pub high : capacity ≤ 16
+  pub all : length slots ≡ 16
+  pub oldest_there : oldest < 16
+  pub within : len ≤ capacity
