@@ -1,6 +1,6 @@
 //! The numbers of frames.
 ghost use Rattle.std.specs.Prelude.{◌≡◌, ◌^◌, ◌<◌, ◌≤◌, ◌↔◌, IsNone, IfSome, OnSome};
-ghost use Rattle.seq_conv.specs.Frame.{frame_of};
+ghost use Rattle.seq_conv.specs.Frame.{frame_number, frame_of};
 
 use perp_base::Frame;
 
@@ -44,7 +44,8 @@ pub fn frame_of(number: u64, n: u32, t: usize) -> Frame
     requires some { 1 ≤ n }
     requires threads { t ≤ 8 }
     requires few { n ^ t ≤ MOST_FRAMES }
-    ensures { result ≡ frame_of n t number }
+    ensures frame { result ≡ frame_of n t number }
+    ensures number { number < n ^ t → frame_number n result ≡ number }
 {
     let mut frame = Frame::new();
     let mut step = power(n, t);

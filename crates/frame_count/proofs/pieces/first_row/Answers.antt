@@ -7,7 +7,7 @@ pub next-requires : goal.next-requires
 next-requires c =
     let n = c.args.n in
     let logs = c.args.logs.now.logs in
-    let frame = c.frame_of-frame.ensures ∙ ap (λ t. frame_of n t 0) c.len.ensures in
+    let frame = c.frame_of-frame.ensures.frame ∙ ap (λ t. frame_of n t 0) c.len.ensures in
     record {
       frame = (n, omega arith, omega arith, frame_is n 0 logs c.frame_of-frame.result c.requires.iterations.0 c.requires.iterations.1 c.requires.threads.0 c.requires.whole frame);
       names = c.requires.names;

@@ -14,7 +14,7 @@ next-total-requires c =
     let at = c.loop-at.at in
     let start = mod_below at n c.requires.iterations.0 in
     let row = c.min-row.ensures in
-    let frame = c.frame_of-frame.ensures ∙ ap (λ t. frame_of n t at) c.len-threads.ensures in
+    let frame = c.frame_of-frame.ensures.frame ∙ ap (λ t. frame_of n t at) c.len-threads.ensures in
     record {
       frame = (n, omega arith, omega arith, frame_is n at logs c.frame_of-frame.result c.requires.iterations.0 c.requires.iterations.1 c.requires.threads.0 c.requires.whole frame);
       names = c.requires.names;
@@ -53,7 +53,7 @@ loop-at-preserved c =
     let low = mod_below at n c.requires.iterations.0 in
     let row = c.min-row.result in
     let min = c.min-row.ensures in
-    let frame = c.frame_of-frame.ensures ∙ ap (λ t. frame_of n t at) c.len-threads.ensures in
+    let frame = c.frame_of-frame.ensures.frame ∙ ap (λ t. frame_of n t at) c.len-threads.ensures in
     let q : ℕ → Bool = λ m. frame_holds conds logs (with_last c.frame_of-frame.result m) in
     let same : (i : ℕ) → i < row → q (first + i) ≡ number_holds conds logs n (at + i) = λ i lt.
     ap (frame_holds conds logs) (ap (λ f. with_last f (first + i)) frame ∙ sym (row_frame n (length logs) at i (first + i) c.requires.threads.0 refl (omega arith))) in
