@@ -10,7 +10,8 @@ use Rattle.tso_words.specs.Seated.{TableId}
 use Rattle.tso_words.specs.Seats.{Lent}
 use Rattle.tso_words.specs.declared.step.Step.{Step}
 use Rattle.tso_words.specs.declared.step.Part.{Part}
-use Rattle.tso_words.specs.History.{beside, others, one_part, Stands, AllHome, eight, list_of, list_at}
+use Rattle.tso_words.specs.History.{eight, list_at}
+use Rattle.tso_words.specs.Views.{beside, others, one_part, Stands, AllHome, list_of}
 use Rattle.tso_words.proofs.Keeping.{list_of_is, list_at-eight, beside-others_same, beside-others_else}
 use Rattle.tso_words.proofs.Homes.{back_same, back_else, Stands-once}
 use Rattle.perp_loop.specs.Walking.{Walking, StandsFor}

@@ -10,7 +10,8 @@ use Rattle.tso_words.specs.Seated.{TableId}
 use Rattle.tso_words.specs.Seats.{Lent}
 use Rattle.tso_words.specs.declared.step.Step.{Step}
 use Rattle.tso_words.specs.declared.step.Part.{Part}
-use Rattle.tso_words.specs.History.{thread_count, beside, Stands, list_at}
+use Rattle.tso_words.specs.History.{thread_count, list_at}
+use Rattle.tso_words.specs.Views.{beside, Stands}
 use Rattle.tso_runs.specs.declared.options.Options.{Options}
 use Rattle.tso_runs.specs.Fits.{IsWithinLimits}
 use Rattle.tso_runs.specs.SharedSteps.{shared_steps}

@@ -5,6 +5,7 @@ ghost use Rattle.perp_loop.specs.Crews.{AreLogsOf, AreWholeFor};
 ghost use Rattle.tso_runs.specs.Merging.{history_of};
 ghost use Rattle.perp_loop.specs.Replaying.{owed_by};
 ghost use Rattle.tso_runs.specs.Schedule.{IsScheduled};
+ghost use Rattle.tso_words.specs.History.{IsFlat};
 
 use crate::crew::{Crew, logs_of};
 use crate::picks::{MOST_THREADS, first_words, pick};
@@ -19,8 +20,10 @@ pub fn replay(traced: Traced, crew: Crew<'_>, schedule: Schedule) -> (Traced, Lo
     requires room { owed_by crew ≤ traced.room }
     ensures made { (run : List Event) × IsScheduled crew.entry.test crew.entry.options schedule run × (result.0.history ≡ history_of crew.entry.test run) × AreLogsOf crew.entry.test run result.1.logs }
     ensures every { (run : List Event) → IsScheduled crew.entry.test crew.entry.options schedule run → (result.0.history ≡ history_of crew.entry.test run) × AreLogsOf crew.entry.test run result.1.logs }
+    ensures flat { IsFlat result.0.words result.0.history }
     ensures whole { AreWholeFor crew.entry.test crew.entry.options.iterations result.1.logs }
 {
+    prove!(traced.steps().is_empty());
     let (mut places, logs) = crew.parts();
     let threads = places.len();
     let mut traced = traced;

@@ -1,6 +1,7 @@
 //! All walkers, each in a thread.
 ghost use Rattle.std.specs.Prelude.{◌≡◌, ℕ, ◌<◌, ◌≤◌, [], length, List};
-ghost use Rattle.tso_words.specs.History.{no_steps, thread_count, ArePartsOfOne};
+ghost use Rattle.tso_words.specs.History.{thread_count, ArePartsOfOne};
+ghost use Rattle.tso_words.specs.Views.{no_steps};
 ghost use Rattle.seq_conv.specs.Event.{Event};
 ghost use Rattle.tso_runs.specs.Fits.{EndsWith, Fits};
 ghost use Rattle.perp_loop.specs.Crews.{AreLogsOf, AreWholeFor, HasLane, AreFresh, AreLent, AreEnded, AreFinishedAs, AreLists, Lends, HasHome, SameWalkers};

@@ -12,6 +12,7 @@ use crate::ask::ask;
 use crate::work::{Worked, work};
 use perp_base::Source;
 use perp_loop::Gate;
+use program_edge::close_unused;
 use report_text::Status;
 use std::alloc::Global;
 use std::thread::Threads;
@@ -44,7 +45,7 @@ pub fn answer<R: Threads + Sync, S: Source, G: Gate>(
     match ask(alloc, words, source) {
         Err(status) => Answered {
             text: Err(status),
-            done: field.close(),
+            done: close_unused(field),
         },
         Ok(asked) => {
             let Worked { text, done } = work(

@@ -19,7 +19,7 @@ use demo_text::demo_iterations;
 use perp_base::NoMemory;
 use perp_loop::{Crew, Gate, Options, Schedule, replay};
 use profile_check::Checked;
-use program_edge::{Ran, run_test};
+use program_edge::{Ran, close_unused, run_test};
 use report_text::convert_text;
 use seq_conv::Sequences;
 use std::alloc::Global;
@@ -42,7 +42,7 @@ impl Worked {
     {
         Worked {
             text: Err(refused),
-            done: field.close(),
+            done: close_unused(field),
         }
     }
 }
@@ -238,6 +238,6 @@ pub fn work<R: Threads + Sync, G: Gate>(
     }
     Worked {
         text: still_text(rt, alloc, command, checked),
-        done: field.close(),
+        done: close_unused(field),
     }
 }

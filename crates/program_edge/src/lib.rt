@@ -4,13 +4,16 @@
 //! `read_test` reads a text of the litmus format, and refuses it with the status that is due for its form and its shape (its clause
 //! `refuses`); `check_test` does so for its atoms. `put_text` writes a text and says whether all of it came onto the sink (`wrote`),
 //! `put_line` a line of which any part may be lost. `run_test` runs the threads of a test on a field: some run of x86-TSO fits what they
-//! did there, and each that fits has the logs (its clause `ran`, by `HasRunOn`); where memory ran out they did nothing (`still`).
+//! did there, and each that fits has the logs (its clause `ran`, by `HasRunOn`); where memory ran out they did nothing (`still`). A field on
+//! which nothing is run is closed by `close_unused`.
 #![tactic(auto)]
 
+mod closing;
 mod reading;
 mod running;
 mod writing;
 
+pub use closing::close_unused;
 pub use reading::{MOST_BYTES, check_test, read_test};
 pub use running::{Ran, run_test};
 pub use writing::{put_line, put_text};

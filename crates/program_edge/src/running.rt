@@ -4,6 +4,7 @@ ghost use Rattle.seq_conv.specs.Numbers.{AreOf};
 ghost use Rattle.tso_runs.specs.Fits.{IsWithinLimits};
 ghost use Rattle.program_edge.specs.Field.{HasRunOn, IsStill};
 
+use crate::closing::close_unused;
 use load_log::Logs;
 use perp_base::NoMemory;
 use perp_loop::{Crew, Gate, Options, run_threads};
@@ -45,7 +46,7 @@ pub fn run_test<R: Threads + Sync, G: Gate>(
             }
         }
         Err(refused) => Ran {
-            done: field.close(),
+            done: close_unused(field),
             logs: Err(refused),
         },
     }

@@ -17,6 +17,7 @@ use crate::verdicts::verdict_on;
 use crate::witnessing::witness_run;
 use crate::words::Command;
 use perp_loop::Gate;
+use program_edge::close_unused;
 use run_text::Section;
 use std::alloc::Global;
 use std::thread::Threads;
@@ -39,7 +40,7 @@ impl Answered {
     {
         Answered {
             text,
-            done: field.close(),
+            done: close_unused(field),
         }
     }
 }

@@ -5,7 +5,8 @@ use Rattle.atomic_table.specs.Table.{State, Me, Allows, Splits, Joins, Final, Se
 use Rattle.tso_words.specs.declared.step.Step.{Step}
 use Rattle.tso_words.specs.declared.step.Step.TheVariants.{Load, Store, Swap}
 use Rattle.tso_words.specs.declared.step.Part.{Part}
-use Rattle.tso_words.specs.History.{word_count, memory_after_step, Finds, beside, grown, only, others, one_part, Stands, HoldsOneHistory, steps_of, AllHome, ArePartsOfOne, eight, list_of}
+use Rattle.tso_words.specs.History.{word_count, memory_after_step, Finds, ArePartsOfOne, eight}
+use Rattle.tso_words.specs.Views.{beside, grown, only, others, one_part, Stands, HoldsOneHistory, first_steps, AllHome, list_of}
 use Rattle.std.proofs.lemmas.List.{set-get_or}
 use Rattle.tso_words.proofs.Keeping.{grows, splits, joins, beside-one_same, only_one, closes}
 
@@ -53,8 +54,8 @@ pub lent_view : (number thread : ℕ) (v : List Part) (l : List Step) (me : Me (
 lent_view number thread v l me is stands made =
     made ∙ ap (λ n. (only n v, [])) (sym is) ∙ ap (λ p. (p, [])) (only_one thread v l stands)
 
-pub lane_view : (thread : ℕ) (l : List Step) (me : Me (Unit {0}) (List Part)) → me ≡ (one_part thread l, []) → me ≡ (one_part thread (steps_of me.0), [])
-lane_view thread l me is = is ∙ ap (λ x. (one_part thread x, [])) (sym (ap (λ (m : Me (Unit {0}) (List Part)). steps_of m.0) is))
+pub lane_view : (thread : ℕ) (l : List Step) (me : Me (Unit {0}) (List Part)) → me ≡ (one_part thread l, []) → me ≡ (one_part thread (first_steps me.0), [])
+lane_view thread l me is = is ∙ ap (λ x. (one_part thread x, [])) (sym (ap (λ (m : Me (Unit {0}) (List Part)). first_steps m.0) is))
 
 -- what a closed table says of the words that were read, and of the view that was kept
 pub ended : (id : ℕ) (v known parts : List Part) (final words : List ℕ) (slots : List (Unit {0})) → Final (Seen Rule id v) final slots → v ≡ parts → known ≡ v → words ≡ final → AllHome parts → ArePartsOfOne words (eight (λ t. list_of t known))

@@ -6,7 +6,8 @@ use Rattle.tso_words.specs.declared.step.Step.{Step}
 use Rattle.tso_words.specs.declared.step.Step.TheVariants.{Load, Store, Swap}
 use Rattle.tso_words.specs.declared.step.TracedStep.{TracedStep}
 use Rattle.tso_words.specs.declared.step.Part.{Part}
-use Rattle.tso_words.specs.History.{thread_count, History, zeros, memory_after_step, Finds, memory_after, FindsAll, IsFlat, history_part, beside, together}
+use Rattle.tso_words.specs.History.{thread_count, History, zeros, memory_after_step, Finds, memory_after, FindsAll, IsFlat, history_part}
+use Rattle.tso_words.specs.Views.{beside, together}
 
 pub memory_after-push : (words : List ℕ) (h : History) (e : TracedStep) → memory_after words (h ++ e ∷ []) ≡ memory_after_step (memory_after words h) e.step
 memory_after-push words [] e = refl

@@ -4,7 +4,8 @@ use mathlib.Core.Logic.{dite}
 use native.Mathlib.Decide.{ℕ_discrete}
 use Rattle.tso_words.specs.declared.step.Step.{Step}
 use Rattle.tso_words.specs.declared.step.Part.{Part}
-use Rattle.tso_words.specs.History.{thread_count, beside, others, one_part, no_steps, Stands, AllHome, History, FindsAll, ArePartsOfOne, zeros, history_part, eight, list_at, memory_after}
+use Rattle.tso_words.specs.History.{thread_count, History, FindsAll, ArePartsOfOne, zeros, history_part, eight, list_at, memory_after}
+use Rattle.tso_words.specs.Views.{beside, others, one_part, no_steps, Stands, AllHome}
 use Rattle.tso_words.proofs.Histories.{beside-append, history_part-cons}
 use Rattle.tso_words.proofs.Keeping.{beside-others_same, beside-others_else, beside-one_same, beside-one_else, list_at-eight}
 
@@ -18,6 +19,9 @@ Stands-no_steps (suc (suc (suc (suc (suc zero))))) h = refl
 Stands-no_steps (suc (suc (suc (suc (suc (suc zero)))))) h = refl
 Stands-no_steps (suc (suc (suc (suc (suc (suc (suc zero))))))) h = refl
 Stands-no_steps (suc (suc (suc (suc (suc (suc (suc (suc t)))))))) h = absurd (omega arith)
+
+pub AllHome-no_steps : AllHome no_steps
+AllHome-no_steps t low = ([], Stands-no_steps t low)
 
 pub Stands-once : (t : ℕ) (parts : List Part) (a b : List Step) → Stands t parts a → Stands t parts b → a ≡ b
 Stands-once t parts a b p q = let e : a ∷ [] ≡ b ∷ [] = sym p ∙ q in cc

@@ -8,7 +8,8 @@ use Rattle.atomic_table.proofs.Lists.{set_again, set_else}
 use Rattle.tso_words.specs.declared.step.Step.{Step}
 use Rattle.tso_words.specs.declared.step.TracedStep.{TracedStep}
 use Rattle.tso_words.specs.declared.step.Part.{Part}
-use Rattle.tso_words.specs.History.{thread_count, History, zeros, memory_after_step, Finds, history_part, beside, together, grown, only, others, one_part, no_steps, HoldsOneHistory, Stands, AllHome, list_of, steps_of, ArePartsOfOne, eight, list_at}
+use Rattle.tso_words.specs.History.{thread_count, History, zeros, memory_after_step, Finds, history_part, ArePartsOfOne, eight, list_at}
+use Rattle.tso_words.specs.Views.{beside, together, grown, only, others, one_part, no_steps, HoldsOneHistory, Stands, AllHome, list_of, first_steps}
 use Rattle.tso_words.proofs.Histories.{IsFlat-push, history_part-push, beside-append, together-push, together-set, before, behind}
 
 -- a list of one element, with parts before and behind it
@@ -250,7 +251,7 @@ opens = ([], (tt, refl), each, none)
 
 -- the list beside a number that stands once
 pub list_of_is : (t : ℕ) (v : List Part) (l : List Step) → Stands t v l → list_of t v ≡ l
-list_of_is t v l stands = ap steps_of (only_one t v l stands)
+list_of_is t v l stands = ap first_steps (only_one t v l stands)
 
 pub eight_same : {A : Type 0} (f g : ℕ → A) → ((t : ℕ) → t < thread_count → f t ≡ g t) → eight f ≡ eight g
 eight_same f g h =

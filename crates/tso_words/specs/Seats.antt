@@ -1,4 +1,4 @@
--- What contracts see of a home and of a lane.
+-- What contracts see of a home, of a lane and of a closed field: this project's own.
 use Rattle.std.specs.Prelude.{◌≡◌, ℕ, List}
 use Rattle.atomic_table.specs.Seated.{TableId}
 use Rattle.tso_words.specs.declared.step.Step.{Step}

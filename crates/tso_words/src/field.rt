@@ -1,7 +1,8 @@
 // The words, the numbers that no thread has, and what is left after the last step.
 ghost use Rattle.std.specs.Prelude.{◌≡◌, ℕ, ◌<◌, [], ◌∷◌, ◌++◌, IfOk, slice_index};
 ghost use Rattle.std.specs.Slots.{slots_items, slots_len, IsFull};
-ghost use Rattle.tso_words.specs.History.{word_count, thread_count, zeros, no_steps, Stands, IsAtHome, others, one_part, AllHome, ArePartsOfOne, eight, list_of};
+ghost use Rattle.tso_words.specs.History.{word_count, ArePartsOfOne, eight};
+ghost use Rattle.tso_words.specs.Views.{no_steps, Stands, IsAtHome, others, one_part, AllHome, list_of};
 
 use crate::lane::Lane;
 use crate::number::Number;
@@ -60,7 +61,7 @@ pub struct Field {
 impl Model for Field {
     ghost use Rattle.std.specs.Prelude.{◌≡◌};
     ghost use Rattle.atomic_table.specs.Seated.{TableId, table_id_coded};
-    ghost use Rattle.tso_words.specs.History.{no_steps};
+    ghost use Rattle.tso_words.specs.Views.{no_steps};
 
     ghost Value = { TableId };
 
@@ -72,9 +73,9 @@ impl Model for Field {
 }
 
 impl Field {
-    /// A new field: sixteen words of 0, all eight numbers at home, and no step taken. That its words are 0 and its lists are empty holds of
-    /// every `Field`, as `fresh` of `parts` and `still` of `close` say. `Err` where memory is refused (no clause says when); of the other calls
-    /// of this crate only `Traced::reserve` can fail.
+    /// A new field: sixteen words of 0, all eight numbers at home, and no step taken. That its lists are empty holds of every `Field`, as
+    /// `fresh` of `parts` says; and so its words are 0 where it is closed before a step, by `lists` and `whole` of `Words::close`. `Err` where
+    /// memory is refused (no clause says when); of the other calls of this crate only `Traced::reserve` can fail.
     pub fn new(alloc: Global) -> Result<Field, NoMemory>
         ensures made { IfOk result (λ field. (field.words ≡ word_count) × (field.slots ≡ 0)) }
     {
@@ -85,23 +86,13 @@ impl Field {
         })
     }
 
-    /// The shared words, and the home of the numbers.
+    /// The shared words, and the home of the numbers. A field is used, and closed, by these parts.
     pub fn parts(self) -> (Words, Home)
         ensures identity { result.1.identity ≡ result.0 }
         ensures fresh { result.1.parts ≡ no_steps }
         ensures field { result.0 ≡ self }
     {
         (self.words, self.home)
-    }
-
-    /// Ends the field before any step: its words are 0, and no thread took a step.
-    pub fn close(self) -> Done
-        ensures identity { result.identity ≡ self }
-        ensures still { (result.words ≡ zeros) × (result.lists ≡ eight (λ _. [])) }
-        ensures whole { ArePartsOfOne result.words result.lists }
-    {
-        let (words, home) = self.parts();
-        words.close(home)
     }
 }
 
@@ -152,7 +143,8 @@ pub struct Done {
 }
 
 impl Model for Done {
-    ghost use Rattle.tso_words.specs.History.{ArePartsOfOne, eight, list_of};
+    ghost use Rattle.tso_words.specs.History.{ArePartsOfOne, eight};
+    ghost use Rattle.tso_words.specs.Views.{list_of};
     ghost use Rattle.tso_words.specs.Seats.{Ended};
 
     ghost Value = { Ended };

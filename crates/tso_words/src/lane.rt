@@ -1,7 +1,8 @@
 // One number, which a thread steps with.
 ghost use Rattle.std.specs.Prelude.{◌≡◌, ◌<◌, [], ◌∷◌, ◌++◌, refl};
 ghost use Rattle.std.proofs.Common.{◌∙◌};
-ghost use Rattle.tso_words.specs.History.{word_count, one_part};
+ghost use Rattle.tso_words.specs.History.{word_count};
+ghost use Rattle.tso_words.specs.Views.{one_part};
 ghost use Rattle.tso_words.specs.Seats.{IsSameLane};
 
 use crate::field::Words;
@@ -20,14 +21,14 @@ pub struct Lane {
 
 impl Model for Lane {
     ghost use Rattle.std.specs.Prelude.{◌≡◌, []};
-    ghost use Rattle.tso_words.specs.History.{one_part, steps_of};
+    ghost use Rattle.tso_words.specs.Views.{one_part, first_steps};
     ghost use Rattle.tso_words.specs.Seats.{Lent};
 
     ghost Value = { Lent };
 
-    ghost view = { λ l. record { identity = l.seat.table_id; thread = l.thread; steps = steps_of l.seat.me.0 } };
+    ghost view = { λ l. record { identity = l.seat.table_id; thread = l.thread; steps = first_steps l.seat.me.0 } };
 
-    ghost invariant = { λ l. l.seat.me ≡ (one_part l.thread (steps_of l.seat.me.0), []) };
+    ghost invariant = { λ l. l.seat.me ≡ (one_part l.thread (first_steps l.seat.me.0), []) };
 }
 
 impl Lane {

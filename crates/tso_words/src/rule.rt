@@ -12,7 +12,7 @@ pub type Parts = LinkedList<Part>;
 pub struct OneHistory;
 
 impl TableRule<(), Parts, ()> for OneHistory {
-    ghost use Rattle.tso_words.specs.History.{HoldsOneHistory, no_steps};
+    ghost use Rattle.tso_words.specs.Views.{HoldsOneHistory, no_steps};
 
     ghost holds = { λ _ s. HoldsOneHistory s.words s.views };
 
@@ -27,7 +27,7 @@ pub struct Loads<T: Number> {
 impl<T: Number> Play<(), Parts> for Loads<T> {
     ghost use Rattle.std.specs.Prelude.{◌≡◌};
     ghost use Rattle.tso_words.specs.declared.step.Step.TheVariants.{Load};
-    ghost use Rattle.tso_words.specs.History.{grown};
+    ghost use Rattle.tso_words.specs.Views.{grown};
 
     ghost then = { λ s me found now. now ≡ (grown T.number (Load s.word found) me.0, me.1) };
 }
@@ -40,7 +40,7 @@ pub struct Stores<T: Number> {
 impl<T: Number> Play<(), Parts> for Stores<T> {
     ghost use Rattle.std.specs.Prelude.{◌≡◌};
     ghost use Rattle.tso_words.specs.declared.step.Step.TheVariants.{Store};
-    ghost use Rattle.tso_words.specs.History.{grown};
+    ghost use Rattle.tso_words.specs.Views.{grown};
 
     ghost then = { λ s me _ now. now ≡ (grown T.number (Store s.word s.first) me.0, me.1) };
 }
@@ -53,7 +53,7 @@ pub struct Swaps<T: Number> {
 impl<T: Number> Play<(), Parts> for Swaps<T> {
     ghost use Rattle.std.specs.Prelude.{◌≡◌};
     ghost use Rattle.tso_words.specs.declared.step.Step.TheVariants.{Swap};
-    ghost use Rattle.tso_words.specs.History.{grown};
+    ghost use Rattle.tso_words.specs.Views.{grown};
 
     ghost then = { λ s me found now. now ≡ (grown T.number (Swap s.word s.first found) me.0, me.1) };
 }
@@ -64,7 +64,7 @@ pub struct Lends<T: Number> {
 }
 
 impl<T: Number> Split<Parts> for Lends<T> {
-    ghost use Rattle.tso_words.specs.History.{only, others};
+    ghost use Rattle.tso_words.specs.Views.{only, others};
 
     ghost left = { others T.number };
 

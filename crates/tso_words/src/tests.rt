@@ -1,6 +1,7 @@
 // Lanes of one thread over one field.
 ghost use Rattle.std.specs.Prelude.{◌≡◌, ◌<◌};
-ghost use Rattle.tso_words.specs.History.{thread_count, AllHome};
+ghost use Rattle.tso_words.specs.History.{thread_count};
+ghost use Rattle.tso_words.specs.Views.{AllHome};
 
 use super::*;
 use std::test::Fail;
@@ -49,7 +50,8 @@ fn all_lanes(rt: HostRuntime) -> Result<(), Fail> {
 
 #[test]
 fn an_untouched_field_closes_with_words_of_0(rt: HostRuntime) -> Result<(), Fail> {
-    let done = Field::new(rt.alloc())?.close();
+    let (words, home) = Field::new(rt.alloc())?.parts();
+    let done = words.close(home);
     assert_eq!(rt; done.word(0), 0);
     assert_eq!(rt; done.word(15), 0);
     Ok(())

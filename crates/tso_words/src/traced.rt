@@ -1,7 +1,10 @@
 // A history that is stored, and a port that adds to it.
-ghost use Rattle.std.specs.Prelude.{◌≡◌, ◌+◌, ◌<◌, ◌≤◌, [], ◌∷◌, ◌++◌, length, slice_index, slice_set, IfOk};
+ghost use Rattle.std.specs.Prelude.{◌≡◌, ◌+◌, ◌<◌, ◌≤◌, [], ◌∷◌, ◌++◌, length, refl, slice_index, slice_set, IfOk};
+ghost use Rattle.std.proofs.Common.{◌∙◌, ap, append-nil, append_assoc, sym};
+ghost use Rattle.std.proofs.Math.Nat.{add-le-add, le_refl, le_trans};
+ghost use Rattle.std.proofs.lemmas.List.{map-append};
 ghost use Rattle.tso_words.specs.History.{word_count, thread_count, zeros, history_part, IsFlat};
-ghost use Rattle.tso_words.specs.Traces.{HasRoom, Continues, HasRoom-fewer, Continues-refl, Continues-trans};
+ghost use Rattle.tso_words.specs.Traces.{HasRoom, Continues, entry, entries};
 
 use crate::port::Port;
 use crate::step::{Step, TracedStep, WORD_COUNT};
@@ -56,7 +59,8 @@ impl Traced {
 
     /// The history.
     pub fn steps(&self) -> &[TracedStep]
-        ensures { result.now ≡ self.now.history }
+        ensures steps { result.now ≡ self.now.history }
+        ensures flat { IsFlat self.now.words self.now.history }
     {
         self.steps.as_slice()
     }
@@ -64,7 +68,8 @@ impl Traced {
     /// The value of word `loc`.
     pub fn word(&self, loc: u32) -> u64
         requires { loc < word_count }
-        ensures { result ≡ slice_index self.now.words loc }
+        ensures word { result ≡ slice_index self.now.words loc }
+        ensures flat { IsFlat self.now.words self.now.history }
     {
         self.words[loc as usize]
     }
@@ -160,9 +165,21 @@ impl Port for TracedPort {
         self.traced.swap(self.thread, loc, new)
     }
 
-    ghost ready_for_fewer = { λ p j k le room. HasRoom-fewer p k j le room };
+    ghost ready_for_fewer = { λ p j k fewer room. le_trans (add-le-add (le_refl (length p.trace.history)) fewer) room };
 
-    ghost kept_at_once = { Continues-refl };
+    ghost kept_at_once = { λ p. (refl, refl, ([], sym (append-nil p.trace.history))) };
 
-    ghost kept_on = { Continues-trans };
+    // What the second call gained stands behind what the first one did.
+    ghost kept_on = { λ p q r a b. (
+      b.0 ∙ a.0,
+      b.1 ∙ a.1,
+      (
+        a.2.0 ++ b.2.0,
+        b.2.1
+            ∙ ap (λ h. h ++ entries q.thread b.2.0) a.2.1
+            ∙ ap (λ t. (p.trace.history ++ entries p.thread a.2.0) ++ entries t b.2.0) a.0
+            ∙ append_assoc p.trace.history (entries p.thread a.2.0) (entries p.thread b.2.0)
+            ∙ ap (λ l. p.trace.history ++ l) (sym (map-append (entry p.thread) a.2.0 b.2.0)),
+      ),
+    ) };
 }

@@ -17,6 +17,7 @@ loop-t-init c =
     let crew = c.parts-places.ensures in
     record {
       plays = plays_start c.args.crew c.args.schedule c.parts-places.result.0.items c.parts-places.result.1 c.first_words-generator.result c.args.traced crew c.first_words-generator.ensures c.requires.empty c.requires.room;
+      flat = c.steps.ensures.flat;
       long = refl;
       threads = search rules;
       few = crew.is_test.few_threads;
@@ -151,6 +152,7 @@ loop-t-preserved c =
       plays = subst (λ b. Plays job c.args.schedule (set c.loop-t.places.items t new) (set c.loop-t.playing t b) (t + 1) c.pick.new.generator c.turn-went.result.1) (sym c.goes_on.ensures)
           (plays_step job c.args.schedule c.loop-t.places.items c.loop-t.playing c.loop-t.from c.loop-t.generator c.pick.new.generator c.loop-t.traced c.turn-went.result.1 p inv.one t k.below inv.few inv.long k.flag k.is_named
           new c.turn-went.ensures.none (c.in-Some.ensures.at p.number p.at refl) went step c.turn-went.ensures.flat);
+      flat = c.turn-went.ensures.flat;
       long = length-set c.loop-t.playing t c.goes_on.result ∙ inv.long;
       threads = inv.threads;
       few = inv.few;
@@ -204,3 +206,6 @@ returns-clause-whole c =
     (ap (λ n. named c.args.schedule p.number c.loop-t.from (players_in c.loop-t.playing n)) (sym inv.threads) ∙ sym none) in
     let count = p.count in
     ended_whole job c.args.schedule c.loop-t.places.items c.loop-t.traced p.run e p.count c.logs_of.result.logs c.logs_of.ensures
+
+pub returns-clause-flat : goal.returns-clause-flat
+returns-clause-flat c = c.loop-t.invariant.flat

@@ -1,5 +1,5 @@
 use Rattle.std.proofs.Common.{◌≡◌, ℕ, ◌<◌, ◌≤◌, [], length, slice_index_or}
-use Rattle.tso_words.specs.History.{beside, Stands}
+use Rattle.tso_words.specs.Views.{beside, Stands}
 use Rattle.perp_loop.specs.Walking.{IsFinished}
 use Rattle.perp_loop.specs.Crews.{Placed, IsBack, IsEnded, SameWalkers}
 use Rattle.perp_loop.proofs.threads.take_back_all.Given as goal

@@ -1,6 +1,6 @@
 use Rattle.std.proofs.Common.{◌≡◌, zero, suc, List, [], ◌++◌, refl, sym, ap, ◌∙◌, subst, arith}
 use Rattle.tso_words.specs.declared.step.Step.{Step}
-use Rattle.tso_words.specs.History.{AllHome, others, one_part, no_steps}
+use Rattle.tso_words.specs.Views.{AllHome, others, one_part, no_steps}
 use Rattle.tso_words.proofs.tests.two_lanes.Goals as goal
 
 all_back : (a b : List Step) → AllHome ((others 1 (others 0 no_steps) ++ one_part 0 a) ++ one_part 1 b)
