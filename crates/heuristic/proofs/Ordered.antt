@@ -1,15 +1,17 @@
 -- The order in which conditions choose, condition by condition.
-use Rattle.std.proofs.Common.{◌≡◌, ◌≢◌, ℕ, zero, suc, ◌+◌, ◌-◌, ◌<◌, ◌≤◌, ◌==◌, Bool, true, false, cond, Option, None, Some, List, [], ◌∷◌, ◌++◌, All, length, get_or, set, replicate, refl, sym, ap, ◌∙◌, arith, subst}
-use Rattle.std.proofs.lemmas.Bool.{eq-eqb, eqb-true}
-use Rattle.std.proofs.lemmas.List.{append-nil, append_assoc, get_or-set_other, get_or-set_same}
+use Rattle.std.proofs.Common.{◌≡◌, ◌≢◌, ℕ, zero, suc, ◌+◌, ◌-◌, ◌<◌, ◌≤◌, ◌==◌, ◌||◌, Bool, true, false, cond, Option, None, Some, List, [], ◌∷◌, ◌++◌, All, length, refl, sym, ap, ◌∙◌, arith, subst}
+use Rattle.std.proofs.lemmas.Bool.{eq-eqb}
+use Rattle.std.proofs.lemmas.List.{append-nil, append_assoc}
 use Rattle.std.proofs.lemmas.List.Elements.{All-from_recursion, recursion_from_All}
-use Rattle.std.proofs.Math.ListN.{length-replicate}
+use Rattle.std.proofs.lemmas.List.Folds.{list_any-append}
+use Rattle.std.proofs.Math.Bool.{or-false}
 use Rattle.std.specs.List.{AllByRecursion as Each, list_any, range_with_len}
 use Rattle.std.specs.Prelude.{find}
 use Rattle.std.specs.Option.{option_map_or}
 use Rattle.seq_conv.specs.Machine.{updated}
 use Rattle.outcome_conv.specs.declared.cond.Cond.{Cond}
 use Rattle.outcome_conv.specs.Plans.{base_by, is_open, order_of, plan_from}
+use Rattle.heuristic.specs.Plan.{has_iteration}
 
 -- what `find` gives
 
@@ -67,54 +69,43 @@ order_none (suc more) conds known e = ap (λ o. option_map_or (λ c. c ∷ order
 order_some : (more : ℕ) (conds : List Cond) (known : ℕ → Bool) (c : Cond) → find (is_open known) conds ≡ Some c → order_of (suc more) conds known ≡ c ∷ order_of more conds (updated known c.writer true)
 order_some more conds known c e = ap (λ o. option_map_or (λ c. c ∷ order_of more conds (updated known c.writer true)) o []) e
 
--- The known threads as an array.
-
-abbrev pub among : List Bool → ℕ → Bool
-among flags t = get_or flags t false
+-- The threads that have their iterations.
 
 pub differs : (t w : ℕ) → (w == t) ≡ false → t ≢ w
 differs t w e s = let z : true ≡ false = sym (eq-eqb w t (sym s)) ∙ e in cc
 
-among_step : (flags : List Bool) (w t : ℕ) (b : Bool) → w < length flags → (w == t) ≡ b → get_or (set flags w true) t false ≡ cond b true (get_or flags t false)
-among_step flags w t true lt e = ap (λ k. get_or (set flags w true) k false) (sym (eqb-true w t e)) ∙ get_or-set_same flags w true false lt
-among_step flags w t false lt e = get_or-set_other flags w t true false (differs t w e)
+one_more : (a b w : Bool) → (a || (b || (w || false))) ≡ cond w true (a || b)
+one_more true b true = refl
+one_more true b false = refl
+one_more false true true = refl
+one_more false true false = refl
+one_more false false true = refl
+one_more false false false = refl
 
-pub among_set : (flags : List Bool) (w : ℕ) → w < length flags → among (set flags w true) ≡ updated (among flags) w true
-among_set flags w lt = λ i t. among_step flags w t (w == t) lt refl i
+has_iteration_push : (base : ℕ) (order : List Cond) (c : Cond) → has_iteration base (order ++ c ∷ []) ≡ updated (has_iteration base order) c.writer true
+has_iteration_push base order c = λ i t.
+    let p : Cond → Bool = λ (d : Cond). d.writer == t in
+    (ap (λ b. (base == t) || b) (list_any-append p order (c ∷ [])) ∙ one_more (base == t) (list_any p order) (c.writer == t)) i
 
-none_step : (k t : ℕ) → get_or (replicate k false) t false ≡ false
-none_step zero t = refl
-none_step (suc k) zero = refl
-none_step (suc k) (suc t) = none_step k t
+has_iteration_first : (base : ℕ) → has_iteration base [] ≡ (λ t. base == t)
+has_iteration_first base = λ i t. or-false (base == t) i
 
-one_step : (b : Bool) → cond b true false ≡ b
-one_step true = refl
-one_step false = refl
-
-pub among_one : (k base : ℕ) → base < k → among (set (replicate k false) base true) ≡ (λ t. base == t)
-among_one k base lt = λ i t.
-    (among_step (replicate k false) base t (base == t) (let l = length-replicate k false in omega arith) refl
-    ∙ ap (λ b. cond (base == t) true b) (none_step k t) ∙ one_step (base == t)) i
-
-pub order_starts : (conds : List Cond) (base : ℕ) → base < 8 → order_of (length conds - 0) conds (among (set (replicate 8 false) base true)) ≡ plan_from conds base
-order_starts conds base lt =
+pub order_starts : (conds : List Cond) (base : ℕ) → order_of (length conds - 0) conds (has_iteration base []) ≡ plan_from conds base
+order_starts conds base =
     let e : length conds - 0 ≡ length conds = omega arith in
-    ap (λ k. order_of k conds (among (set (replicate 8 false) base true))) e ∙ ap (order_of (length conds) conds) (among_one 8 base lt)
+    ap (λ k. order_of k conds (has_iteration base [])) e ∙ ap (order_of (length conds) conds) (has_iteration_first base)
 
-pub order_ends : (more : ℕ) (conds : List Cond) (flags : List Bool) (done whole : List Cond) → find (is_open (among flags)) conds ≡ None
-    → done ++ order_of more conds (among flags) ≡ whole → done ≡ whole
-order_ends more conds flags done whole e h = sym (append-nil done) ∙ ap (λ l. done ++ l) (sym (order_none more conds (among flags) e)) ∙ h
+pub order_ends : (more : ℕ) (conds : List Cond) (known : ℕ → Bool) (done whole : List Cond) → find (is_open known) conds ≡ None
+    → done ++ order_of more conds known ≡ whole → done ≡ whole
+order_ends more conds known done whole e h = sym (append-nil done) ∙ ap (λ l. done ++ l) (sym (order_none more conds known e)) ∙ h
 
-pub order_done : (steps i : ℕ) (conds : List Cond) (flags : List Bool) (done whole : List Cond) → steps ≤ i → done ++ order_of (steps - i) conds (among flags) ≡ whole → done ≡ whole
-order_done steps i conds flags done whole le h =
-    let e : steps - i ≡ 0 = omega arith in
-    sym (append-nil done) ∙ ap (λ k. done ++ order_of k conds (among flags)) (sym e) ∙ h
-
-pub order_goes_on : (steps i : ℕ) (conds : List Cond) (flags : List Bool) (done whole : List Cond) (c : Cond) → i < steps → c.writer < length flags → find (is_open (among flags)) conds ≡ Some c
-    → done ++ order_of (steps - i) conds (among flags) ≡ whole → (done ++ c ∷ []) ++ order_of (steps - (i + 1)) conds (among (set flags c.writer true)) ≡ whole
-order_goes_on steps i conds flags done whole c lt w e h =
+pub order_goes_on : (steps i : ℕ) (conds : List Cond) (base : ℕ) (done whole : List Cond) (c : Cond) → i < steps → find (is_open (has_iteration base done)) conds ≡ Some c
+    → done ++ order_of (steps - i) conds (has_iteration base done) ≡ whole
+    → (done ++ c ∷ []) ++ order_of (steps - (i + 1)) conds (has_iteration base (done ++ c ∷ [])) ≡ whole
+order_goes_on steps i conds base done whole c lt e h =
     let s : steps - i ≡ suc (steps - (i + 1)) = omega arith in
-    append_assoc done (c ∷ []) (order_of (steps - (i + 1)) conds (among (set flags c.writer true)))
-    ∙ ap (λ f. done ++ c ∷ order_of (steps - (i + 1)) conds f) (among_set flags c.writer w)
-    ∙ ap (λ l. done ++ l) (sym (ap (λ k. order_of k conds (among flags)) s ∙ order_some (steps - (i + 1)) conds (among flags) c e))
+    let known = has_iteration base done in
+    append_assoc done (c ∷ []) (order_of (steps - (i + 1)) conds (has_iteration base (done ++ c ∷ [])))
+    ∙ ap (λ f. done ++ c ∷ order_of (steps - (i + 1)) conds f) (has_iteration_push base done c)
+    ∙ ap (λ l. done ++ l) (sym (ap (λ k. order_of k conds known) s ∙ order_some (steps - (i + 1)) conds known c e))
     ∙ h

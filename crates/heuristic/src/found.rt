@@ -47,7 +47,7 @@ fn is_find(plan: &Plan, conds: &Conds, logs: &Logs, n: u32, c: u32, frame: &Fram
 {
     match plan.at(c as usize).base() {
         None => false,
-        Some(base) => match find(plan, conds, logs, n, c, frame.at(base as usize)) {
+        Some(base) => match find(plan, conds, logs, n, c, frame.at(base)) {
             None => false,
             Some(own) => frame.is(&own),
         },

@@ -1,9 +1,10 @@
 //! The plan of the picks: where each conjunction begins, and which of its conditions choose, in order.
-ghost use Rattle.std.specs.Prelude.{◌≡◌, ◌==◌, ◌<◌, ◌≤◌, All, IfOk, IfSome, false, find, length, slice_index_or};
+ghost use Rattle.std.specs.Prelude.{◌≡◌, ◌==◌, ◌<◌, All, IfOk, IfSome, find, length, slice_index_or};
 ghost use Rattle.std.specs.List.{list_any};
 ghost use Rattle.outcome_conv.specs.declared.cond.Cond.{Cond};
 ghost use Rattle.outcome_conv.specs.Conditions.{IsKind};
 ghost use Rattle.outcome_conv.specs.Plans.{base_by, is_open, plan_from};
+ghost use Rattle.heuristic.specs.Plan.{has_iteration};
 
 use outcome_conv::{Cond, Conds};
 use perp_base::NoMemory;
@@ -13,7 +14,7 @@ use std::marker::Model;
 /// The base thread of a conjunction, and its conditions that choose, in order. Only a conjunction without conditions has no base.
 #[derive(Drop)]
 pub(crate) struct Choices {
-    base: Option<u32>,
+    base: Option<usize>,
     order: Vec<Cond>,
 }
 
@@ -35,12 +36,10 @@ impl Choices {
 
     /// The choices of a conjunction among so many threads.
     fn of(alloc: Global, conds: &[Cond], t: usize) -> Result<Choices, NoMemory>
-        requires threads { t ≤ 8 }
-        requires named { All (λ c. (c.reader < t) × (c.writer < t)) conds.now }
-        requires kinds { All (λ (c : Cond). IsKind c.kind) conds.now }
+        requires { All (λ (c : Cond). IsKind c.kind) conds.now }
         ensures { IfOk result (λ choices. choices ≡ choices_of t conds.now) }
     {
-        let base = base_of(conds, t as u32);
+        let base = base_of(conds, t);
         let order = match base {
             None => Vec::new(alloc),
             Some(thread) => order_from(alloc, conds, thread)?,
@@ -49,7 +48,7 @@ impl Choices {
     }
 
     /// The thread that a picked frame's iteration is given for.
-    pub(crate) fn base(&self) -> Option<u32>
+    pub(crate) fn base(&self) -> Option<usize>
         ensures { result ≡ self.now.base }
     {
         self.base
@@ -65,16 +64,15 @@ impl Choices {
 }
 
 /// Whether the thread is the reader of one of the conditions.
-fn reads(conds: &[Cond], thread: u32) -> bool
+fn reads(conds: &[Cond], thread: usize) -> bool
     ensures { result ≡ list_any (λ (c : Cond). c.reader == thread) conds.now }
 {
-    conds.iter().any(|cond| cond.reader == thread)
+    conds.iter().any(|cond| cond.reader as usize == thread)
 }
 
 /// The first of so many threads that is the reader of one of the conditions.
-fn base_of(conds: &[Cond], threads: u32) -> Option<u32>
-    ensures value { result ≡ base_by threads conds.now }
-    ensures below { IfSome result (λ base. base < threads) }
+fn base_of(conds: &[Cond], threads: usize) -> Option<usize>
+    ensures { result ≡ base_by threads conds.now }
 {
     for thread in 0..threads {
         if reads(conds, thread) {
@@ -84,13 +82,26 @@ fn base_of(conds: &[Cond], threads: u32) -> Option<u32>
     None
 }
 
-/// The first condition whose reader is chosen and whose writer is not.
-fn first_open(conds: &[Cond], chosen: &[bool; 8]) -> Option<Cond>
-    requires { All (λ c. (c.reader < 8) × (c.writer < 8)) conds.now }
-    ensures { result ≡ find (is_open (λ t. slice_index_or chosen.now t false)) conds.now }
+/// Whether the thread is the writer of one of the conditions.
+fn writes(conds: &[Cond], thread: u32) -> bool
+    ensures { result ≡ list_any (λ (c : Cond). c.writer == thread) conds.now }
+{
+    conds.iter().any(|cond| cond.writer == thread)
+}
+
+/// Whether a thread has its iteration: it is the base, or a condition has chosen for it.
+fn has_iteration(order: &[Cond], base: usize, thread: u32) -> bool
+    ensures { result ≡ has_iteration base order.now thread }
+{
+    base == thread as usize || writes(order, thread)
+}
+
+/// The first condition whose reader has its iteration and whose writer has none.
+fn first_open(conds: &[Cond], order: &[Cond], base: usize) -> Option<Cond>
+    ensures { result ≡ find (is_open (has_iteration base order.now)) conds.now }
 {
     for cond in conds {
-        if chosen[cond.reader as usize] && !chosen[cond.writer as usize] {
+        if has_iteration(order, base, cond.reader) && !has_iteration(order, base, cond.writer) {
             return Some(*cond);
         }
     }
@@ -98,23 +109,16 @@ fn first_open(conds: &[Cond], chosen: &[bool; 8]) -> Option<Cond>
 }
 
 /// The conditions that choose where this thread is the base, in order.
-fn order_from(alloc: Global, conds: &[Cond], base: u32) -> Result<Vec<Cond>, NoMemory>
-    requires base { base < 8 }
-    requires named { All (λ c. (c.reader < 8) × (c.writer < 8)) conds.now }
-    requires kinds { All (λ (c : Cond). IsKind c.kind) conds.now }
+fn order_from(alloc: Global, conds: &[Cond], base: usize) -> Result<Vec<Cond>, NoMemory>
+    requires { All (λ (c : Cond). IsKind c.kind) conds.now }
     ensures order { IfOk result (λ order. order.items ≡ plan_from conds.now base) }
     ensures kinds { IfOk result (λ order. All (λ (c : Cond). IsKind c.kind) order.items) }
 {
-    let mut chosen = [false; 8];
-    chosen[base as usize] = true;
     let mut order = Vec::new(alloc);
     for _ in 0..conds.len() {
-        match first_open(conds, &chosen) {
+        match first_open(conds, &order, base) {
             None => return Ok(order),
-            Some(cond) => {
-                order.push(cond)?;
-                chosen[cond.writer as usize] = true;
-            }
+            Some(cond) => order.push(cond)?,
         }
     }
     Ok(order)
@@ -138,10 +142,8 @@ impl Model for Plan {
 impl Plan {
     ghost use Rattle.heuristic.specs.Plan.{plan_of};
 
-    /// The plan for conditions that name the first `t` threads alone, at most eight. It looks at no log.
+    /// The plan for conditions on `t` threads. It looks at no log.
     pub fn of(alloc: Global, conds: &Conds, t: usize) -> Result<Plan, NoMemory>
-        requires threads { t ≤ 8 }
-        requires named { All (λ c. (c.reader < t) × (c.writer < t)) conds.now.conds }
         ensures plan { IfOk result (λ plan. plan ≡ plan_of t conds.now) }
     {
         let mut choices = Vec::new(alloc);
