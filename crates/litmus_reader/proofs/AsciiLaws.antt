@@ -57,7 +57,8 @@ ascii_prefix : (p : ℕ → Bool) → ((b : ℕ) → p b ≡ true → b < 128) �
 ascii_prefix p h [] = ascii_nil
 ascii_prefix p h (b ∷ bs) = go (ascii_prefix p h bs) (p b) refl
   where
-    go : IsAscii (take (prefix_len p bs) bs) → (v : Bool) → p b ≡ v → IsAscii (take (cond v (1 + prefix_len p bs) 0) (b ∷ bs))
+    go : IsAscii (take (prefix_len p bs) bs) → (v : Bool) → p b ≡ v
+        → IsAscii (take (cond v (1 + prefix_len p bs) 0) (b ∷ bs))
     go k true e = rw one-add (ascii_cons b (take (prefix_len p bs) bs) (h b e) k)
     go k false e = ascii_nil
 
@@ -89,7 +90,8 @@ IsPlainKind (Some kind) spelled = (kind_code kind == 0) ≡ true → IsAscii spe
 abbrev IsPlainCut : ℕ → List ℕ → Cut → Type 0
 IsPlainCut b bs c = IsPlainKind c.kind (b ∷ take c.more bs)
 
-other_kind : (v : Bool) (k l : TokenKind) → (kind_code k == 0) ≡ false → (kind_code l == 0) ≡ false → (kind_code (cond v k l) == 0) ≡ false
+other_kind : (v : Bool) (k l : TokenKind) → (kind_code k == 0) ≡ false → (kind_code l == 0) ≡ false
+    → (kind_code (cond v k l) == 0) ≡ false
 other_kind true k l h m = h
 other_kind false k l h m = m
 
@@ -115,14 +117,17 @@ cut_plain : (b : ℕ) (bs : List ℕ) → IsPlainCut b bs (cut_at b bs)
 unfolding cut_at
 cut_plain b bs = go (is_blank b) (is_head b) refl (is_digit b) (is_pair b bs)
   where
-    go : (v w : Bool) → is_head b ≡ w → (x y : Bool) → IsPlainCut b bs (cond v (nothing 0) (cond w (token Name (prefix_len is_tail bs)) (cond x (token Number (prefix_len is_digit bs)) (cond y (pair_cut b bs) (token (sign b) 0)))))
+    go : (v w : Bool) → is_head b ≡ w → (x y : Bool)
+        → IsPlainCut b bs (cond v (nothing 0) (cond w (token Name (prefix_len is_tail bs)) (cond x (token Number (prefix_len is_digit bs)) (cond y (pair_cut b bs) (token (sign b) 0)))))
     go true w e x y = tt
-    go false true e x y = λ k. ascii_cons b (take (prefix_len is_tail bs) bs) (head_below b e) (ascii_prefix is_tail tail_below bs)
+    go false true e x y =
+        λ k. ascii_cons b (take (prefix_len is_tail bs) bs) (head_below b e) (ascii_prefix is_tail tail_below bs)
     go false false e true y = λ k. absurd (false≢true k)
     go false false e false true = pair_plain b bs
     go false false e false false = λ k. let n = sign_is_no_name b in absurd cc
 
-put_plain : (o : Option TokenKind) (spelled : List ℕ) (at : Spot) (ts : List Lexeme) → IsPlainKind o spelled → ArePlain ts → ArePlain (put o spelled at ts)
+put_plain : (o : Option TokenKind) (spelled : List ℕ) (at : Spot) (ts : List Lexeme) → IsPlainKind o spelled
+    → ArePlain ts → ArePlain (put o spelled at ts)
 put_plain None spelled at ts h k = k
 put_plain (Some kind) spelled at ts h k = (h, k)
 
@@ -146,7 +151,8 @@ kept true f g e h = names_ascii f g e h
 kept false f g e h = absurd cc
 
 -- a token that fills a slot
-fill_plain : (s : Slot) (t : Lexeme) (f g : Found) → fill s t f ≡ Some g → IsPlain t → IsAscii f.location → IsAscii g.location
+fill_plain : (s : Slot) (t : Lexeme) (f g : Found) → fill s t f ≡ Some g → IsPlain t → IsAscii f.location
+    → IsAscii g.location
 unfolding fill
 fill_plain (Mark kind) t f g e h k = kept (is kind t) f g e k
 fill_plain (Maybe kind) t f g e h k = kept (is kind t) f g e k
@@ -167,23 +173,28 @@ fill_plain Small t f g e h k = kept (is Number t && nat_lt (value t) (2 ^ 32)) (
 fill_plain Thread t f g e h k = kept (is Number t && nat_lt (value t) (2 ^ 32)) (record f { thread = value t }) g e k
 
 -- what follows once a token fills a slot or does not
-abbrev fitted : List Slot → Lexeme → List Lexeme → Found → Bool → Option Found → Result (Found × List Lexeme) (List Lexeme)
-fitted ss t ts f v o = elim o [ Some more ↦ fit ss ts more | None ↦ elim v [ true ↦ fit ss (t ∷ ts) f | false ↦ Err (t ∷ ts) ] ]
+abbrev fitted : List Slot → Lexeme → List Lexeme → Found → Bool → Option Found
+    → Result (Found × List Lexeme) (List Lexeme)
+fitted ss t ts f v o =
+    elim o [ Some more ↦ fit ss ts more | None ↦ elim v [ true ↦ fit ss (t ∷ ts) f | false ↦ Err (t ∷ ts) ] ]
 
 same_pair : (x y : Found × List Lexeme) → ◌≡◌ {A = Result (Found × List Lexeme) (List Lexeme)} (Ok x) (Ok y) → x ≡ y
 same_pair x y e = cc
 
-fit_plain : (ss : List Slot) (ts : List Lexeme) (f : Found) (x : Found × List Lexeme) → fit ss ts f ≡ Ok x → ArePlain ts → IsAscii f.location → IsAscii x.0.location
+fit_plain : (ss : List Slot) (ts : List Lexeme) (f : Found) (x : Found × List Lexeme) → fit ss ts f ≡ Ok x → ArePlain ts
+    → IsAscii f.location → IsAscii x.0.location
 unfolding fit
 fit_plain [] ts f x e h k = subst (λ (x : Found × List Lexeme). IsAscii x.0.location) (same_pair (f, ts) x e) k
 fit_plain (s ∷ ss) [] f x e h k = go (λ m. fit_plain ss [] f x m tt k) (may_miss s) e
   where
-    go : (fit ss [] f ≡ Ok x → IsAscii x.0.location) → (v : Bool) → cond v (fit ss [] f) (Err []) ≡ Ok x → IsAscii x.0.location
+    go : (fit ss [] f ≡ Ok x → IsAscii x.0.location) → (v : Bool) → cond v (fit ss [] f) (Err []) ≡ Ok x
+        → IsAscii x.0.location
     go more true e = more e
     go more false e = absurd cc
 fit_plain (s ∷ ss) (t ∷ ts) f x e h k = go (λ g m n. fit_plain ss ts g x m h.1 (fill_plain s t f g n h.0 k)) (λ m. fit_plain ss (t ∷ ts) f x m h k) (fill s t f) refl (may_miss s) e
   where
-    go : ((g : Found) → fit ss ts g ≡ Ok x → fill s t f ≡ Some g → IsAscii x.0.location) → (fit ss (t ∷ ts) f ≡ Ok x → IsAscii x.0.location)
+    go : ((g : Found) → fit ss ts g ≡ Ok x → fill s t f ≡ Some g → IsAscii x.0.location)
+        → (fit ss (t ∷ ts) f ≡ Ok x → IsAscii x.0.location)
         → (o : Option Found) → fill s t f ≡ o → (v : Bool) → fitted ss t ts f v o ≡ Ok x → IsAscii x.0.location
     go filled missed (Some g) n v e = filled g e n
     go filled missed None n true e = missed e
@@ -198,14 +209,17 @@ AllMean P (row ∷ rows) = ((f : Found) → IsAscii f.location → P (row.means 
 abbrev meant : {A : Type 0} → Row A → List (Row A) → List Lexeme → Option Found → Option A
 meant row rows ts o = elim o [ Some found ↦ Some (row.means found) | None ↦ meaning rows ts ]
 
-meaning_plain : {A : Type 0} (P : A → Type 0) (rows : List (Row A)) (ts : List Lexeme) (a : A) → AllMean P rows → ArePlain ts → meaning rows ts ≡ Some a → P a
+meaning_plain : {A : Type 0} (P : A → Type 0) (rows : List (Row A)) (ts : List Lexeme) (a : A) → AllMean P rows
+    → ArePlain ts → meaning rows ts ≡ Some a → P a
 unfolding meaning
 meaning_plain P [] ts a k h e = absurd cc
 meaning_plain P (row ∷ rows) ts a k h e = go (meaning_plain P rows ts a k.1 h) (fit row.slots ts nothing_found) refl e
   where
-    go : (meaning rows ts ≡ Some a → P a) → (r : Result (Found × List Lexeme) (List Lexeme)) → fit row.slots ts nothing_found ≡ r
+    go : (meaning rows ts ≡ Some a → P a) → (r : Result (Found × List Lexeme) (List Lexeme))
+        → fit row.slots ts nothing_found ≡ r
         → meant row rows ts (whole r) ≡ Some a → P a
-    go later (Ok (f, [])) m e = subst P (some_is (row.means f) a e) (k.0 f (fit_plain row.slots ts nothing_found (f, []) m h ascii_nil))
+    go later (Ok (f, [])) m e =
+        subst P (some_is (row.means f) a e) (k.0 f (fit_plain row.slots ts nothing_found (f, []) m h ascii_nil))
     go later (Ok (f, t ∷ us)) m e = later e
     go later (Err us) m e = later e
 
@@ -242,7 +256,8 @@ having_ascii xs x h k = go (place_in xs x)
     go (Some i) = h
     go None = All-push IsAscii xs x h k
 
-locations_ascii : (xs : List (List ℕ)) (form : Form) → All IsAscii xs → IsAsciiForm form → All IsAscii (locations_after xs form)
+locations_ascii : (xs : List (List ℕ)) (form : Form) → All IsAscii xs → IsAsciiForm form
+    → All IsAscii (locations_after xs form)
 locations_ascii xs Blank h k = h
 locations_ascii xs Fence h k = h
 locations_ascii xs (StoreNumber x n) h k = having_ascii xs x h k
@@ -254,7 +269,8 @@ locations_ascii xs (Exchange x r) h k = having_ascii xs x h k
 abbrev AreAscii : Threads → Type 0
 AreAscii s = All IsAscii s.locations
 
-acted_ascii : (i : ℕ) (s : Threads) (cell : List Lexeme) (form : Form) (code : Code) → ArePlain cell → parse cell ≡ Ok form
+acted_ascii : (i : ℕ) (s : Threads) (cell : List Lexeme) (form : Form) (code : Code) → ArePlain cell
+    → parse cell ≡ Ok form
     → code_after s.locations form (body_of i s) ≡ Some code → AreAscii s → AreAscii (threads_after i form s code)
 acted_ascii i s cell form code p m k h = locations_ascii s.locations form h (parse_plain cell form p m)
 
@@ -274,7 +290,9 @@ first_ascii : (text : List ℕ) (x : List ℕ × Rest) → first_line text ≡ O
 unfolding first_line
 first_ascii text x e = go (is_x86 (words (line_in text))) (name_of (words (line_in text))) refl e
   where
-    go : (v : Bool) (o : Option (List ℕ)) → name_of (words (line_in text)) ≡ o → cond v (named_or_not o (rest_at (after_bytes start (line_in text)) (behind_line text))) (refuse NotX86 1) ≡ Ok x → IsAscii x.0
+    go : (v : Bool) (o : Option (List ℕ)) → name_of (words (line_in text)) ≡ o
+        → cond v (named_or_not o (rest_at (after_bytes start (line_in text)) (behind_line text))) (refuse NotX86 1) ≡ Ok x
+        → IsAscii x.0
     go true None k e = absurd cc
     go true (Some name) k e = subst (λ (x : List ℕ × Rest). IsAscii x.0) (ok_is (name, rest_at (after_bytes start (line_in text)) (behind_line text)) x e) (name_ascii (words (line_in text)) name k)
     go false o k e = absurd cc
@@ -303,10 +321,12 @@ read_ascii text test e = sections_ascii text test (accepted_is text test e)
 pub names_are_ascii : NamesAreAscii
 names_are_ascii text test h = read_ascii text test ((one_reading text).1 (Accepted test) h)
 
-pub answered_name : (text : List ℕ) (r : Result LitmusTest LitmusError) → IfAnswered r (λ answer. read_text text ≡ answer) → IfOk r (λ test. IsAscii test.name)
+pub answered_name : (text : List ℕ) (r : Result LitmusTest LitmusError)
+    → IfAnswered r (λ answer. read_text text ≡ answer) → IfOk r (λ test. IsAscii test.name)
 answered_name text (Ok test) h = (read_ascii text test h).0
 answered_name text (Err e) h = tt
 
-pub answered_locations : (text : List ℕ) (r : Result LitmusTest LitmusError) → IfAnswered r (λ answer. read_text text ≡ answer) → IfOk r (λ test. All IsAscii test.locations)
+pub answered_locations : (text : List ℕ) (r : Result LitmusTest LitmusError)
+    → IfAnswered r (λ answer. read_text text ≡ answer) → IfOk r (λ test. All IsAscii test.locations)
 answered_locations text (Ok test) h = (read_ascii text test h).1
 answered_locations text (Err e) h = tt

@@ -28,14 +28,16 @@ pub with_none : (r : Result Joined Refusal) → with_front (joined [] []) r ≡ 
 with_none (Ok j) = ap (λ ends. Ok (joined j.atoms ends)) (none_before j.ends)
 with_none (Err e) = refl
 
-pub regroup : (front : Joined) (found : Found) (r : Result Joined Refusal) → with_front front (with_atom found r) ≡ with_front (joined (front.atoms ++ atom_of found ∷ []) front.ends) r
+pub regroup : (front : Joined) (found : Found) (r : Result Joined Refusal)
+    → with_front front (with_atom found r) ≡ with_front (joined (front.atoms ++ atom_of found ∷ []) front.ends) r
 regroup front found (Ok j) =
     let e : length (front.atoms ++ atom_of found ∷ []) ≡ suc (length front.atoms) = omega (arith, length-append front.atoms (atom_of found ∷ [])) in
     ap (λ atoms. Ok (joined atoms (front.ends ++ map (λ n. length front.atoms + n) (map suc j.ends)))) (sym (append_assoc front.atoms (atom_of found ∷ []) j.atoms))
     ∙ ap (λ ends. Ok (joined ((front.atoms ++ atom_of found ∷ []) ++ j.atoms) (front.ends ++ ends))) (shifted (length front.atoms) (length (front.atoms ++ atom_of found ∷ [])) e j.ends)
 regroup front found (Err e) = refl
 
-pub regroup_end : (front : Joined) (r : Result Joined Refusal) → with_front front (with_end r) ≡ with_front (joined front.atoms (front.ends ++ length front.atoms ∷ [])) r
+pub regroup_end : (front : Joined) (r : Result Joined Refusal)
+    → with_front front (with_end r) ≡ with_front (joined front.atoms (front.ends ++ length front.atoms ∷ [])) r
 regroup_end front (Ok j) =
     let e : length front.atoms + 0 ≡ length front.atoms = omega arith in
     ap (λ n. Ok (joined (front.atoms ++ j.atoms) (front.ends ++ n ∷ map (λ n. length front.atoms + n) j.ends))) e
@@ -68,18 +70,21 @@ ends_push (d ∷ cs) c =
     ∙ ap (λ n. length d ∷ (map (λ n. length d + n) (ends_of cs) ++ n ∷ [])) k
 
 -- an atom more
-pub front_atom : (read : Conjunctions) (found : Found) (r : Result Joined Refusal) → with_front (front_of read) (with_atom found r) ≡ with_front (front_of (then_atom read found)) r
+pub front_atom : (read : Conjunctions) (found : Found) (r : Result Joined Refusal)
+    → with_front (front_of read) (with_atom found r) ≡ with_front (front_of (then_atom read found)) r
 front_atom read found r =
     regroup (front_of read) found r
     ∙ ap (λ atoms. with_front (joined atoms (ends_of read.ended)) r) (append_assoc (flat read.ended) read.atoms (atom_of found ∷ []))
 
-row_is : (read : Conjunctions) → in_a_row (all_of read) ≡ joined (flat read.ended ++ read.atoms) (ends_of read.ended ++ length (flat read.ended ++ read.atoms) ∷ [])
+row_is : (read : Conjunctions)
+    → in_a_row (all_of read) ≡ joined (flat read.ended ++ read.atoms) (ends_of read.ended ++ length (flat read.ended ++ read.atoms) ∷ [])
 row_is read =
     ap (λ atoms. joined atoms (ends_of (all_of read))) (flat_push read.ended read.atoms)
     ∙ ap (λ ends. joined (flat read.ended ++ read.atoms) ends) (ends_push read.ended read.atoms)
 
 -- a `\/`
-pub front_or : (read : Conjunctions) (r : Result Joined Refusal) → with_front (front_of read) (with_end r) ≡ with_front (front_of (then_or read)) r
+pub front_or : (read : Conjunctions) (r : Result Joined Refusal)
+    → with_front (front_of read) (with_end r) ≡ with_front (front_of (then_or read)) r
 front_or read r =
     regroup_end (front_of read) r
     ∙ ap (λ front. with_front front r) (sym (row_is read) ∙ ap (λ atoms. joined atoms (ends_of (all_of read))) (sym (append-nil (flat (all_of read)))))

@@ -31,7 +31,8 @@ err_is : {A : Type 0} (d e : Refusal) → ◌≡◌ {A = Result A Refusal} (Err 
 err_is d e h = cc
 
 -- sections that have one answer each have one together
-then_exactly : {A B : Type 0} (R : Result A Refusal → Type 0) (S : A → Result B Refusal → Type 0) (x : Result A Refusal) (f : A → Result B Refusal) → Exactly R x → ((a : A) → Exactly (S a) (f a)) → Exactly (Then R S) (x >>= f)
+then_exactly : {A B : Type 0} (R : Result A Refusal → Type 0) (S : A → Result B Refusal → Type 0) (x : Result A Refusal) (f : A → Result B Refusal)
+    → Exactly R x → ((a : A) → Exactly (S a) (f a)) → Exactly (Then R S) (x >>= f)
 then_exactly R S (Ok a) f h k = record {
   holds = goes_on a h.holds (k a).holds;
   only = go;
@@ -60,11 +61,13 @@ expression_exactly last ts f = let s = some_expression last ts in record {
   only = go;
 }
   where
-    made : (r : Told) → Term last false [] none_read ts r → Then (Term last false [] none_read ts) (λ cs test. test ≡ Ok (f (in_a_row cs))) (told r >>= λ j. Ok (f j))
+    made : (r : Told) → Term last false [] none_read ts r
+        → Then (Term last false [] none_read ts) (λ cs test. test ≡ Ok (f (in_a_row cs))) (told r >>= λ j. Ok (f j))
     made (Ok cs) h = goes_on cs h refl
     made (Err e) h = stops e h
 
-    go : (y : Result LitmusTest Refusal) → Then (Term last false [] none_read ts) (λ cs test. test ≡ Ok (f (in_a_row cs))) y
+    go : (y : Result LitmusTest Refusal)
+        → Then (Term last false [] none_read ts) (λ cs test. test ≡ Ok (f (in_a_row cs))) y
         → (expression_at last (AtTerm false) outermost ts >>= λ j. Ok (f j)) ≡ y
     go y (stops e h) = ap (λ r. r >>= λ j. Ok (f j)) (expression_only h)
     go y (goes_on cs h k) = ap (λ r. r >>= λ j. Ok (f j)) (expression_only h) ∙ sym k
@@ -79,7 +82,8 @@ tokens_exactly last name ts =
     then_exactly _ _ _ _ (exactly _ _ (quantifier_made last ts) (λ r h. quantifier_only h)) (λ q.
     expression_exactly last q.1 (λ j. test_of name s.0 q.0 j))))))
 
-cut_exactly : (last : ℕ) (name : List ℕ) (rest : Rest) → Exactly (Cut last name rest) (tokens_at last name (lex 0 rest.at rest.text))
+cut_exactly : (last : ℕ) (name : List ℕ) (rest : Rest)
+    → Exactly (Cut last name rest) (tokens_at last name (lex 0 rest.at rest.text))
 cut_exactly last name rest = record {
   holds = cut (lex 0 rest.at rest.text) (lexes_made rest.at rest.text) (tokens_exactly last name (lex 0 rest.at rest.text)).holds;
   only = go;
@@ -105,8 +109,10 @@ answer_made text (Ok test) h = go (limit_of test) refl
 
 answer_only : (text : List ℕ) (answer : Answer) → Reads text answer → answer_of (sections_at text) ≡ answer
 answer_only text answer (refused e h) = ap answer_of ((sections_exactly text).only (Err e) h)
-answer_only text answer (over test limit h e) = ap answer_of ((sections_exactly text).only (Ok test) h) ∙ ap (limited test) e
-answer_only text answer (accepted test h e) = ap answer_of ((sections_exactly text).only (Ok test) h) ∙ ap (limited test) e
+answer_only text answer (over test limit h e) =
+    ap answer_of ((sections_exactly text).only (Ok test) h) ∙ ap (limited test) e
+answer_only text answer (accepted test h e) =
+    ap answer_of ((sections_exactly text).only (Ok test) h) ∙ ap (limited test) e
 
 pub one_reading : OneReading
 unfolding read_text

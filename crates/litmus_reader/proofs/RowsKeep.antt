@@ -76,35 +76,43 @@ module _ (Plain : Lexeme → Type 0) (Good : Threads → Type 0)
   are_split [] h = (tt, tt)
   are_split (t ∷ ts) h = go (is Bar t) (slice_split (is Bar) ts) (are_split ts h.1)
     where
-      go : (v : Bool) (parts : List (List Lexeme)) → AllAre Plain parts → AllAre Plain (cond v ([] ∷ parts) (onto_first t parts))
+      go : (v : Bool) (parts : List (List Lexeme)) → AllAre Plain parts
+          → AllAre Plain (cond v ([] ∷ parts) (onto_first t parts))
       go true parts k = (tt, k)
       go false [] k = ((h.0, tt), tt)
       go false (p ∷ ps) k = ((h.0, k.0), k.1)
 
   -- ---- cells and rows
 
-  acted_keeps : (i : ℕ) (s : Threads) (cell : List Lexeme) (form : Form) (o : Option Code) (line : ℕ) (next : Threads) → Are Plain cell → parse cell ≡ Ok form
+  acted_keeps : (i : ℕ) (s : Threads) (cell : List Lexeme) (form : Form) (o : Option Code) (line : ℕ) (next : Threads)
+      → Are Plain cell → parse cell ≡ Ok form
       → code_after s.locations form (body_of i s) ≡ o → acted i form s o line ≡ Ok next → Good s → Good next
   acted_keeps i s cell form None line next p m k e h = absurd cc
-  acted_keeps i s cell form (Some code) line next p m k e h = subst Good (ok_is (threads_after i form s code) next e) (keeps i s cell form code p m k h)
+  acted_keeps i s cell form (Some code) line next p m k e h =
+      subst Good (ok_is (threads_after i form s code) next e) (keeps i s cell form code p m k h)
 
-  act_keeps : (i : ℕ) (s : Threads) (cell : List Lexeme) (r : Result Form InstrError) (line : ℕ) (next : Threads) → Are Plain cell → parse cell ≡ r
+  act_keeps : (i : ℕ) (s : Threads) (cell : List Lexeme) (r : Result Form InstrError) (line : ℕ) (next : Threads)
+      → Are Plain cell → parse cell ≡ r
       → act i s r line ≡ Ok next → Good s → Good next
   act_keeps i s cell (Err d) line next p m e h = absurd cc
-  act_keeps i s cell (Ok form) line next p m e h = acted_keeps i s cell form (code_after s.locations form (body_of i s)) line next p m refl e h
+  act_keeps i s cell (Ok form) line next p m e h =
+      acted_keeps i s cell form (code_after s.locations form (body_of i s)) line next p m refl e h
 
-  cell_keeps : (i : ℕ) (s : Threads) (cell : List Lexeme) (next : Threads) → Are Plain cell → cell_at i s cell ≡ Ok next → Good s → Good next
+  cell_keeps : (i : ℕ) (s : Threads) (cell : List Lexeme) (next : Threads) → Are Plain cell → cell_at i s cell ≡ Ok next
+      → Good s → Good next
   unfolding cell_at
   cell_keeps i s cell next p e h = act_keeps i s cell (parse cell) (line_at 0 cell) next p refl e h
 
-  cells_keep : (i : ℕ) (s : Threads) (cs : List (List Lexeme)) (next : Threads) → AllAre Plain cs → cells_at i s cs ≡ Ok next → Good s → Good next
+  cells_keep : (i : ℕ) (s : Threads) (cs : List (List Lexeme)) (next : Threads) → AllAre Plain cs
+      → cells_at i s cs ≡ Ok next → Good s → Good next
   unfolding cells_at
   cells_keep i s [] next p e h = subst Good (ok_is s next e) h
   cells_keep i s (c ∷ cs) next p e h =
       let b = bound (cell_at i s c) (λ next. cells_at (suc i) next cs) next e in
       cells_keep (suc i) b.0 cs next p.1 b.2 (cell_keeps i s c b.0 p.0 b.1 h)
 
-  row_keeps : (line : ℕ) (s : Threads) (row : List Lexeme) (next : Threads) → Are Plain row → row_of line s row ≡ Ok next → Good s → Good next
+  row_keeps : (line : ℕ) (s : Threads) (row : List Lexeme) (next : Threads) → Are Plain row
+      → row_of line s row ≡ Ok next → Good s → Good next
   unfolding row_of
   row_keeps line s row next p e h = go (length (cells row) == length s.bodies) e
     where
@@ -112,15 +120,18 @@ module _ (Plain : Lexeme → Type 0) (Good : Threads → Type 0)
       go true k = cells_keep 0 s (cells row) next (are_split row p) k h
       go false k = absurd cc
 
-  rows_keep : (last : ℕ) (s : Threads) (row ts : List Lexeme) (x : Threads × List Lexeme) → Are Plain row → Are Plain ts → rows_at last s row ts ≡ Ok x → Good s → Good x.0
+  rows_keep : (last : ℕ) (s : Threads) (row ts : List Lexeme) (x : Threads × List Lexeme) → Are Plain row → Are Plain ts
+      → rows_at last s row ts ≡ Ok x → Good s → Good x.0
   unfolding rows_at
   rows_keep last s [] [] x m n e h = absurd cc
   rows_keep last s (y ∷ row) [] x m n e h = absurd cc
   rows_keep last s [] (t ∷ ts) x m n e h =
       go (λ next k. rows_keep last next [] ts x tt n.1 k) (rows_keep last s (t ∷ []) ts x (n.0, tt) n.1) (ends_code t) (is Semi t) e
     where
-      go : ((next : Threads) → rows_at last next [] ts ≡ Ok x → Good next → Good x.0) → (rows_at last s (t ∷ []) ts ≡ Ok x → Good s → Good x.0) → (v w : Bool)
-          → cond v (Ok (s, t ∷ ts)) (cond w (row_of t.line s [] >>= (λ next. rows_at last next [] ts)) (rows_at last s (t ∷ []) ts)) ≡ Ok x → Good x.0
+      go : ((next : Threads) → rows_at last next [] ts ≡ Ok x → Good next → Good x.0)
+          → (rows_at last s (t ∷ []) ts ≡ Ok x → Good s → Good x.0) → (v w : Bool)
+          → cond v (Ok (s, t ∷ ts)) (cond w (row_of t.line s [] >>= (λ next. rows_at last next [] ts)) (rows_at last s (t ∷ []) ts)) ≡ Ok x
+          → Good x.0
       go again longer true w k = subst (λ (x : Threads × List Lexeme). Good x.0) (ok_is (s, t ∷ ts) x k) h
       go again longer false true k =
           let b = bound (row_of t.line s []) (λ next. rows_at last next [] ts) x k in again b.0 b.2 (row_keeps t.line s [] b.0 tt b.1 h)
@@ -131,18 +142,22 @@ module _ (Plain : Lexeme → Type 0) (Good : Threads → Type 0)
     where
       go : ((next : Threads) → rows_at last next [] ts ≡ Ok x → Good next → Good x.0)
           → (rows_at last s (y ∷ (row ++ t ∷ [])) ts ≡ Ok x → Good s → Good x.0) → (w : Bool)
-          → cond w (row_of t.line s (y ∷ row) >>= (λ next. rows_at last next [] ts)) (rows_at last s (y ∷ (row ++ t ∷ [])) ts) ≡ Ok x → Good x.0
+          → cond w (row_of t.line s (y ∷ row) >>= (λ next. rows_at last next [] ts)) (rows_at last s (y ∷ (row ++ t ∷ [])) ts) ≡ Ok x
+          → Good x.0
       go again longer true k =
           let b = bound (row_of t.line s (y ∷ row)) (λ next. rows_at last next [] ts) x k in again b.0 b.2 (row_keeps t.line s (y ∷ row) b.0 m b.1 h)
       go again longer false k = longer k h
 
-  columns_keep : (last : ℕ) (row ts : List Lexeme) (x : Threads × List Lexeme) → Are Plain ts → columns_at last row ts ≡ Ok x → Good x.0 × Are Plain x.1
+  columns_keep : (last : ℕ) (row ts : List Lexeme) (x : Threads × List Lexeme) → Are Plain ts
+      → columns_at last row ts ≡ Ok x → Good x.0 × Are Plain x.1
   unfolding columns_at
   columns_keep last row [] x h e = absurd cc
-  columns_keep last row (t ∷ ts) x h e = go (columns_keep last (row ++ t ∷ []) ts x h.1) (is Semi t) (are_columns 0 (cells row)) e
+  columns_keep last row (t ∷ ts) x h e =
+      go (columns_keep last (row ++ t ∷ []) ts x h.1) (is Semi t) (are_columns 0 (cells row)) e
     where
       go : (columns_at last (row ++ t ∷ []) ts ≡ Ok x → Good x.0 × Are Plain x.1) → (v w : Bool)
-          → cond v (cond w (Ok (no_code (length (cells row)), ts)) (refuse Column t.line)) (columns_at last (row ++ t ∷ []) ts) ≡ Ok x → Good x.0 × Are Plain x.1
+          → cond v (cond w (Ok (no_code (length (cells row)), ts)) (refuse Column t.line)) (columns_at last (row ++ t ∷ []) ts) ≡ Ok x
+          → Good x.0 × Are Plain x.1
       go longer true true k =
           subst (λ (x : Threads × List Lexeme). Good x.0 × Are Plain x.1) (ok_is (no_code (length (cells row)), ts) x k) (start row, h.1)
       go longer true false k = absurd cc
@@ -154,18 +169,22 @@ module _ (Plain : Lexeme → Type 0) (Good : Threads → Type 0)
   items_keep last item [] rest h e = absurd cc
   items_keep last item (t ∷ ts) rest h e = go (items_keep last [] ts rest h.1) (items_keep last (item ++ t ∷ []) ts rest h.1) (ends_item t) (is RightBrace t) e
     where
-      ends : (items last [] ts ≡ Ok rest → Are Plain rest) → (w : Bool) → cond w (Ok ts) (items last [] ts) ≡ Ok rest → Are Plain rest
+      ends : (items last [] ts ≡ Ok rest → Are Plain rest) → (w : Bool) → cond w (Ok ts) (items last [] ts) ≡ Ok rest
+          → Are Plain rest
       ends next true k = subst (Are Plain) (ok_is ts rest k) h.1
       ends next false k = next k
 
-      go : (items last [] ts ≡ Ok rest → Are Plain rest) → (items last (item ++ t ∷ []) ts ≡ Ok rest → Are Plain rest) → (v w : Bool)
-          → cond v (judge item >>= (λ _. cond w (Ok ts) (items last [] ts))) (items last (item ++ t ∷ []) ts) ≡ Ok rest → Are Plain rest
+      go : (items last [] ts ≡ Ok rest → Are Plain rest) → (items last (item ++ t ∷ []) ts ≡ Ok rest → Are Plain rest)
+          → (v w : Bool)
+          → cond v (judge item >>= (λ _. cond w (Ok ts) (items last [] ts))) (items last (item ++ t ∷ []) ts) ≡ Ok rest
+          → Are Plain rest
       go next longer true w k = let b = bound (judge item) (λ _. cond w (Ok ts) (items last [] ts)) rest k in ends next w b.2
       go next longer false w k = longer k
 
   -- ---- the whole text
 
-  tokens_keep : (last : ℕ) (name : List ℕ) (ts : List Lexeme) (test : LitmusTest) → Are Plain ts → tokens_at last name ts ≡ Ok test → Kept Good name test
+  tokens_keep : (last : ℕ) (name : List ℕ) (ts : List Lexeme) (test : LitmusTest) → Are Plain ts
+      → tokens_at last name ts ≡ Ok test → Kept Good name test
   unfolding tokens_at
   tokens_keep last name ts test h e =
       let i = bound (items last [] ts) _ test e in
@@ -185,7 +204,8 @@ module _ (Plain : Lexeme → Type 0) (Good : Threads → Type 0)
         is = ok_is (test_of name s.0.0 q.0.0 j.0) test j.2;
       }
 
-  pub sections_keep : (text : List ℕ) (test : LitmusTest) → ((at : Spot) (text : List ℕ) → Are Plain (lex 0 at text)) → sections_at text ≡ Ok test → KeptBehind Good text test
+  pub sections_keep : (text : List ℕ) (test : LitmusTest) → ((at : Spot) (text : List ℕ) → Are Plain (lex 0 at text))
+      → sections_at text ≡ Ok test → KeptBehind Good text test
   unfolding sections_at
   sections_keep text test all e =
       let f = bound (first_line text) _ test e in

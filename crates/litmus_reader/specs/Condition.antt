@@ -31,12 +31,16 @@ pub data Section (last : ℕ) : List Lexeme → Result (List Lexeme) Refusal →
   -- the text is over behind the word
   ended : {t : Lexeme} → IsTrue (is_word (codes "locations") t) → Section last (t ∷ []) (refuse Condition last)
   -- another token in place of the bracket: its line
-  wrong : {t u : Lexeme} {ts : List Lexeme} → IsTrue (is_word (codes "locations") t) → IsFalse (is LeftSquare u) → Section last (t ∷ u ∷ ts) (refuse Condition u.line)
+  wrong : {t u : Lexeme} {ts : List Lexeme} → IsTrue (is_word (codes "locations") t) → IsFalse (is LeftSquare u)
+      → Section last (t ∷ u ∷ ts) (refuse Condition u.line)
   -- no closing bracket
-  unclosed : {t u : Lexeme} {ts : List Lexeme} → IsTrue (is_word (codes "locations") t) → IsTrue (is LeftSquare u) → IsTrue (list_all is_no_close ts) → Section last (t ∷ u ∷ ts) (refuse Condition last)
+  unclosed : {t u : Lexeme} {ts : List Lexeme} → IsTrue (is_word (codes "locations") t) → IsTrue (is LeftSquare u)
+      → IsTrue (list_all is_no_close ts) → Section last (t ∷ u ∷ ts) (refuse Condition last)
   -- skipped to the first closing bracket
-  skipped : {t u : Lexeme} (inside : List Lexeme) (v : Lexeme) (rest : List Lexeme) → IsTrue (is_word (codes "locations") t) → IsTrue (is LeftSquare u)
-      → IsTrue (list_all is_no_close inside) → IsTrue (is RightSquare v) → Section last (t ∷ u ∷ (inside ++ v ∷ rest)) (Ok rest)
+  skipped : {t u : Lexeme} (inside : List Lexeme) (v : Lexeme) (rest : List Lexeme)
+      → IsTrue (is_word (codes "locations") t) → IsTrue (is LeftSquare u)
+      → IsTrue (list_all is_no_close inside) → IsTrue (is RightSquare v)
+      → Section last (t ∷ u ∷ (inside ++ v ∷ rest)) (Ok rest)
 
 -- ---- the quantifier
 
@@ -49,21 +53,27 @@ pub data Quantified (last : ℕ) : List Lexeme → Result (Quantifier × List Le
   -- the text is over
   ended : Quantified last [] (refuse Condition last)
   -- `exists`
-  exists : {t : Lexeme} {ts : List Lexeme} → IsTrue (is_word (codes "exists") t) → Quantified last (t ∷ ts) (Ok (Exists, ts))
+  exists : {t : Lexeme} {ts : List Lexeme} → IsTrue (is_word (codes "exists") t)
+      → Quantified last (t ∷ ts) (Ok (Exists, ts))
   -- `forall`: its line
-  forall : {t : Lexeme} {ts : List Lexeme} → IsTrue (is_word (codes "forall") t) → Quantified last (t ∷ ts) (refuse Forall t.line)
+  forall : {t : Lexeme} {ts : List Lexeme} → IsTrue (is_word (codes "forall") t)
+      → Quantified last (t ∷ ts) (refuse Forall t.line)
   -- any other token: its line
-  other : {t : Lexeme} {ts : List Lexeme} → IsFalse (begins_quantifier t) → Quantified last (t ∷ ts) (refuse Condition t.line)
+  other : {t : Lexeme} {ts : List Lexeme} → IsFalse (begins_quantifier t)
+      → Quantified last (t ∷ ts) (refuse Condition t.line)
   -- the text is over behind `~`
   tilde_ended : {t : Lexeme} → IsTrue (is Tilde t) → Quantified last (t ∷ []) (refuse Condition last)
   -- `~exists`
-  not_exists : {t u : Lexeme} {ts : List Lexeme} → IsTrue (is Tilde t) → IsTrue (is_word (codes "exists") u) → Quantified last (t ∷ u ∷ ts) (Ok (NotExists, ts))
+  not_exists : {t u : Lexeme} {ts : List Lexeme} → IsTrue (is Tilde t) → IsTrue (is_word (codes "exists") u)
+      → Quantified last (t ∷ u ∷ ts) (Ok (NotExists, ts))
   -- another token behind `~`: its line
-  tilde_other : {t u : Lexeme} {ts : List Lexeme} → IsTrue (is Tilde t) → IsFalse (is_word (codes "exists") u) → Quantified last (t ∷ u ∷ ts) (refuse Condition u.line)
+  tilde_other : {t u : Lexeme} {ts : List Lexeme} → IsTrue (is Tilde t) → IsFalse (is_word (codes "exists") u)
+      → Quantified last (t ∷ u ∷ ts) (refuse Condition u.line)
 
 -- ---- the expression
--- Conjunctions with `\/` between them, eight at most. A conjunction is terms with `/\` between them. A term is an atom, or an
--- expression in parentheses, of which sixteen at most are open; one that holds a `\/` stands alone in its conjunction.
+-- Conjunctions with `\/` between them, eight at most. A conjunction is terms with `/\` between them. A term is an atom,
+-- or an expression in parentheses, of which sixteen at most are open; one that holds a `\/` stands alone in its
+-- conjunction.
 
 -- an atom: a thread's number, `:`, a register, `=` and a number
 abbrev pub atom_slots : List Slot
@@ -133,27 +143,33 @@ pub data NoTerm (last : ℕ) (around : List Paren) : List Lexeme → LitmusKind 
   text_over : NoTerm last around [] Condition last
   -- a number that begins no atom: the line of the first token that does not fit
   no_atom : {t : Lexeme} {ts : List Lexeme} (misfit : List Lexeme) → IsTrue (is Number t)
-      → Fits atom_slots (t ∷ ts) nothing_found (Err misfit) → NoTerm last around (t ∷ ts) Condition (line_at last misfit)
+      → Fits atom_slots (t ∷ ts) nothing_found (Err misfit)
+      → NoTerm last around (t ∷ ts) Condition (line_at last misfit)
   -- one parenthesis too many: its line
-  too_deep : {t : Lexeme} {ts : List Lexeme} → IsTrue (is Left t) → IsFalse (may_open around) → NoTerm last around (t ∷ ts) Condition t.line
+  too_deep : {t : Lexeme} {ts : List Lexeme} → IsTrue (is Left t) → IsFalse (may_open around)
+      → NoTerm last around (t ∷ ts) Condition t.line
   -- a condition on memory: its line
-  memory : {t : Lexeme} {ts : List Lexeme} → IsTrue (is_memory t ts) → NoTerm last around (t ∷ ts) MemoryCondition t.line
+  memory : {t : Lexeme} {ts : List Lexeme} → IsTrue (is_memory t ts)
+      → NoTerm last around (t ∷ ts) MemoryCondition t.line
   -- no beginning of a term: its line
   other : {t : Lexeme} {ts : List Lexeme} → IsTrue (begins_nothing t ts) → NoTerm last around (t ∷ ts) Condition t.line
 
--- `NoMore last read holds around tokens kind line`: a term has ended here, one in parentheses that holds a `\/` or not, and this
--- cannot follow
+-- `NoMore last read holds around tokens kind line`: a term has ended here, one in parentheses that holds a `\/` or not,
+-- and this cannot follow
 pub data NoMore (last : ℕ) (read : Conjunctions) : Bool → List Paren → List Lexeme → LitmusKind → ℕ → Type 0 where
   -- `/\` behind a term that stands alone: its line
-  mixed_and : {around : List Paren} {t : Lexeme} {ts : List Lexeme} → IsTrue (is Both t) → NoMore last read true around (t ∷ ts) Disjunction t.line
+  mixed_and : {around : List Paren} {t : Lexeme} {ts : List Lexeme} → IsTrue (is Both t)
+      → NoMore last read true around (t ∷ ts) Disjunction t.line
   -- `\/` where none may stand: its line
   no_or : {holds : Bool} {around : List Paren} {t : Lexeme} {ts : List Lexeme}
-      → IsTrue (is Either t) → IsFalse (may_part around read) → NoMore last read holds around (t ∷ ts) Disjunction t.line
+      → IsTrue (is Either t) → IsFalse (may_part around read)
+      → NoMore last read holds around (t ∷ ts) Disjunction t.line
   -- another token in a parenthesis: its line
   stray : {holds : Bool} {p : Paren} {around : List Paren} {t : Lexeme} {ts : List Lexeme}
       → IsFalse (joins t || is Right t) → NoMore last read holds (p ∷ around) (t ∷ ts) Condition t.line
   -- another token outside all of them: its line
-  trailing : {holds : Bool} {t : Lexeme} {ts : List Lexeme} → IsFalse (joins t) → NoMore last read holds [] (t ∷ ts) Trailing t.line
+  trailing : {holds : Bool} {t : Lexeme} {ts : List Lexeme} → IsFalse (joins t)
+      → NoMore last read holds [] (t ∷ ts) Trailing t.line
   -- the text is over in a parenthesis
   unclosed : {holds : Bool} {p : Paren} {around : List Paren} → NoMore last read holds (p ∷ around) [] Condition last
 
@@ -162,19 +178,23 @@ abbrev pub Told : Type 0
 Told = Result (List (List Atom)) Refusal
 
 mutual
-  -- `Term last joined around read tokens answer`: a term must stand here, directly behind a `/\` or not, inside these open
-  -- parentheses, the innermost one first, and behind what was read
+  -- `Term last joined around read tokens answer`: a term must stand here, directly behind a `/\` or not, inside these
+  -- open parentheses, the innermost one first, and behind what was read
   pub data Term (last : ℕ) : Bool → List Paren → Conjunctions → List Lexeme → Told → Type 0 where
     -- an atom
-    atom : {joined : Bool} {around : List Paren} {read : Conjunctions} {t : Lexeme} {ts : List Lexeme} {r : Told} (found : Found) (rest : List Lexeme)
-        → IsTrue (is Number t) → Fits atom_slots (t ∷ ts) nothing_found (Ok (found, rest)) → Behind last false around (then_atom read found) rest r
+    atom : {joined : Bool} {around : List Paren} {read : Conjunctions} {t : Lexeme} {ts : List Lexeme} {r : Told}
+        (found : Found) (rest : List Lexeme) → IsTrue (is Number t)
+        → Fits atom_slots (t ∷ ts) nothing_found (Ok (found, rest))
+        → Behind last false around (then_atom read found) rest r
         → Term last joined around read (t ∷ ts) r
     -- `(`, and a term in it
     opened : {joined : Bool} {around : List Paren} {read : Conjunctions} {t : Lexeme} {ts : List Lexeme} {r : Told}
-        → IsTrue (is Left t) → IsTrue (may_open around) → Term last false (begun joined ∷ around) read ts r → Term last joined around read (t ∷ ts) r
+        → IsTrue (is Left t) → IsTrue (may_open around) → Term last false (begun joined ∷ around) read ts r
+        → Term last joined around read (t ∷ ts) r
     -- none
-    no_term : {joined : Bool} {around : List Paren} {read : Conjunctions} {ts : List Lexeme} {kind : LitmusKind} {line : ℕ}
-        → NoTerm last around ts kind line → Term last joined around read ts (refuse kind line)
+    no_term : {joined : Bool} {around : List Paren} {read : Conjunctions} {ts : List Lexeme}
+        {kind : LitmusKind} {line : ℕ} → NoTerm last around ts kind line
+        → Term last joined around read ts (refuse kind line)
 
   -- `Behind last holds around read tokens answer`: a term has ended here, one in parentheses that holds a `\/` or not
   pub data Behind (last : ℕ) : Bool → List Paren → Conjunctions → List Lexeme → Told → Type 0 where
@@ -186,13 +206,15 @@ mutual
         → IsTrue (is Either t) → IsTrue (may_part around read) → Term last false (all_hold around) (then_or read) ts r
         → Behind last holds around read (t ∷ ts) r
     -- `)`, and so the term in these parentheses has ended
-    closed : {holds : Bool} {p : Paren} {around : List Paren} {read : Conjunctions} {t : Lexeme} {ts : List Lexeme} {r : Told}
-        → IsTrue (is Right t) → Behind last p.holds around read ts r → Behind last holds (p ∷ around) read (t ∷ ts) r
+    closed : {holds : Bool} {p : Paren} {around : List Paren} {read : Conjunctions} {t : Lexeme} {ts : List Lexeme}
+        {r : Told} → IsTrue (is Right t) → Behind last p.holds around read ts r
+        → Behind last holds (p ∷ around) read (t ∷ ts) r
     -- the text is over outside all parentheses, and so is the condition
     ended : {holds : Bool} {read : Conjunctions} → Behind last holds [] read [] (Ok (all_of read))
     -- none of these
-    no_more : {holds : Bool} {around : List Paren} {read : Conjunctions} {ts : List Lexeme} {kind : LitmusKind} {line : ℕ}
-        → NoMore last read holds around ts kind line → Behind last holds around read ts (refuse kind line)
+    no_more : {holds : Bool} {around : List Paren} {read : Conjunctions} {ts : List Lexeme}
+        {kind : LitmusKind} {line : ℕ} → NoMore last read holds around ts kind line
+        → Behind last holds around read ts (refuse kind line)
 
 -- ---- conjunctions in a row
 

@@ -1,5 +1,6 @@
--- The expression of a condition, read as a function: token by token, with four numbers that stand for the open parentheses and
--- the conjunctions. It answers what `Term` of Condition says, and no law rests on its form. This project's own.
+-- The expression of a condition, read by a function: token by token, with four numbers that stand for the open
+-- parentheses and the conjunctions. It answers what `Term` of Condition says, which the law of one reading proves.
+-- This project's own.
 use Rattle.std.specs.Prelude.{ℕ, suc, ◌+◌, ◌-◌, ◌==◌, min, map, Bool, true, false, ◌&&◌, List, [], ◌∷◌, Some, None, Result, Ok, if◌then◌else◌, nat_lt, nat_le}
 use Rattle.x86_subset.specs.declared.token.TokenKind.TheVariants.{Number, Left, Right, Both, Either}
 use Rattle.x86_subset.specs.Token.{Lexeme}
@@ -25,18 +26,24 @@ with_atom found r = r >>= λ j. Ok (record { atoms = atom_of found ∷ j.atoms; 
 abbrev pub with_end : Result Joined Refusal → Result Joined Refusal
 with_end r = r >>= λ j. Ok (record { atoms = j.atoms; ends = 0 ∷ j.ends })
 
--- Where a token stands: inside `depth` open parentheses, of which the outermost `holding` hold a `\/`. The outermost one that began
--- directly behind a `/\` is the one of number `barred`, from 1 on; 0 where none did. So many `\/` stand before.
+-- Where a token stands: inside `depth` open parentheses, of which the outermost `holding` hold a `\/`. The outermost
+-- one that began directly behind a `/\` is the one of number `barred`, from 1 on; 0 where none did. So many `\/` stand
+-- before.
 abbrev pub outermost : Nest
 outermost = record { depth = 0; holding = 0; barred = 0; ors = 0 }
 
 -- inside one more parenthesis, which began directly behind a `/\` or not
 abbrev pub opened_in : Bool → Nest → Nest
-opened_in joined n = record n { depth = n.depth + 1; barred = if joined && n.barred == 0 then n.depth + 1 else n.barred }
+opened_in joined n =
+    record n { depth = n.depth + 1; barred = if joined && n.barred == 0 then n.depth + 1 else n.barred }
 
 -- behind the parenthesis that closes the innermost one
 abbrev pub closed_in : Nest → Nest
-closed_in n = record n { depth = n.depth - 1; holding = min n.holding (n.depth - 1); barred = if nat_lt n.barred n.depth then n.barred else 0 }
+closed_in n = record n {
+  depth = n.depth - 1;
+  holding = min n.holding (n.depth - 1);
+  barred = if nat_lt n.barred n.depth then n.barred else 0;
+}
 
 -- the innermost parenthesis holds a `\/`
 abbrev pub holds_or : Nest → Bool
@@ -56,7 +63,8 @@ is_outside n = n.depth == 0
 
 -- ---- steps
 
--- where the reading of an expression stands: where a term must stand, behind one, or in an atom, with the slots that are left
+-- where the reading of an expression stands: where a term must stand, behind one, or in an atom, of which these slots
+-- are left
 pub data Place : Type 0 where
   AtTerm : Bool → Place
   BehindTerm : Bool → Place
@@ -77,7 +85,10 @@ filled n (s ∷ ss) found = Goes (InAtom (s ∷ ss) found) n
 -- a token in an atom of which these slots are left
 unfoldable pub in_atom : Nest → List Slot → Lexeme → Found → Step
 in_atom n [] t found = Fails Condition
-in_atom n (s ∷ ss) t found = elim (fill s t found) [ Some more ↦ filled n ss more | None ↦ elim (may_miss s) [ true ↦ in_atom n ss t found | false ↦ Fails Condition ] ]
+in_atom n (s ∷ ss) t found = elim (fill s t found) [
+  | Some more ↦ filled n ss more
+  | None ↦ elim (may_miss s) [ true ↦ in_atom n ss t found | false ↦ Fails Condition ]
+]
 
 -- a token where a term must stand
 unfoldable pub at_term : Bool → Nest → Lexeme → List Lexeme → Step

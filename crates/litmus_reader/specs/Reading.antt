@@ -15,7 +15,14 @@ use Rattle.litmus_reader.specs.Expression.{outermost, expression_at, AtTerm}
 
 -- the test of these sections
 abbrev pub test_of : List ℕ → cell.Threads → Quantifier → Joined → LitmusTest
-test_of name threads quantifier j = record { name = name; locations = threads.locations; bodies = threads.bodies; quantifier = quantifier; atoms = j.atoms; ends = j.ends }
+test_of name threads quantifier j = record {
+  name = name;
+  locations = threads.locations;
+  bodies = threads.bodies;
+  quantifier = quantifier;
+  atoms = j.atoms;
+  ends = j.ends;
+}
 
 -- the sections of the tokens behind the first brace
 abbrev pub Tokens : ℕ → List ℕ → List Lexeme → Result LitmusTest Refusal → Type 0
@@ -44,7 +51,8 @@ pub data Reads (text : List ℕ) : Answer → Type 0 where
   -- a section met a kind
   refused : (e : Refusal) → Sections text (Err e) → Reads text (Refused e)
   -- a whole test that passes a limit, the first one
-  over : (test : LitmusTest) (limit : Shape) → Sections text (Ok test) → limit_of test ≡ Some limit → Reads text (Over limit)
+  over : (test : LitmusTest) (limit : Shape) → Sections text (Ok test) → limit_of test ≡ Some limit
+      → Reads text (Over limit)
   -- a test
   accepted : (test : LitmusTest) → Sections text (Ok test) → limit_of test ≡ None → Reads text (Accepted test)
 
@@ -84,4 +92,5 @@ read_text text = answer_of (sections_at text)
 
 -- each text is read as one answer, and as no other
 abbrev pub OneReading : Type 0
-OneReading = (text : List ℕ) → Reads text (read_text text) × ((answer : Answer) → Reads text answer → read_text text ≡ answer)
+OneReading =
+    (text : List ℕ) → Reads text (read_text text) × ((answer : Answer) → Reads text answer → read_text text ≡ answer)
