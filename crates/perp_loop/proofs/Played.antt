@@ -13,8 +13,8 @@ use Rattle.tso_words.specs.Traces.{entries}
 use Rattle.tso_words.specs.declared.step.Step.{Step}
 use Rattle.tso_words.specs.declared.step.TracedStep.{TracedStep}
 use Rattle.tso_runs.specs.declared.options.Options.{Options}
-use Rattle.tso_runs.specs.Schedule.{cut_of, turns_behind}
 use Rattle.tso_runs.specs.SharedSteps.{shared_history, shared_steps, steps_of}
+use Rattle.tso_runs.specs.Turns.{turns_of, turns_behind}
 use Rattle.perp_loop.specs.Walking.{IsTurn, actions_in, buffer_after}
 use Rattle.tso_runs.proofs.Events.{buffer_own, history_part-tagged_own, memory_traced, needs_from, tagged, traced}
 use Rattle.tso_runs.proofs.Memories.{FindsAll}
@@ -102,8 +102,8 @@ module _ (test : LitmusTest) (options : Options) (t : ℕ) where
       let ds = is.0 in
       let e = is.1 in
       let h = taken test options t s (slot ∷ slots) j buffer (turn ++ rest) r in
-      let cut : cut_of (turn ++ rest) ≡ turn ∷ turns_behind [] rest =
-      ap (λ l. cut_of (l ++ rest)) is.2 ∙ ap cut_of (append_assoc ds (e ∷ []) rest) ∙ cut_front [] ds e rest is.3 is.4 ∙ ap (λ l. l ∷ turns_behind [] rest) (sym is.2)
+      let cut : turns_of (turn ++ rest) ≡ turn ∷ turns_behind [] rest =
+      ap (λ l. turns_of (l ++ rest)) is.2 ∙ ap turns_of (append_assoc ds (e ∷ []) rest) ∙ cut_front [] ds e rest is.3 is.4 ∙ ap (λ l. l ∷ turns_behind [] rest) (sym is.2)
       in
       let heads : Some turn ≡ Some h.turn = ap (λ l. slice_get l 0) (sym cut ∙ h.cut) in
       let same : turn ≡ h.turn = cc in

@@ -18,7 +18,8 @@ use Rattle.tso_runs.specs.declared.options.Options.{Options}
 use Rattle.tso_runs.specs.declared.schedule.Schedule.{Schedule}
 use Rattle.perp_loop.specs.Crews.{AreLogs, AreLogsOf, AreWholeFor, IsLogOf, IsSameWalker, Job, Placed}
 use Rattle.perp_loop.specs.Replaying.{IsAtTurn, sum_below}
-use Rattle.tso_runs.specs.Schedule.{IsScheduled, joined, named}
+use Rattle.tso_runs.specs.Schedule.{IsScheduled, named}
+use Rattle.tso_runs.specs.Turns.{joined}
 use Rattle.tso_runs.specs.SharedSteps.{shared_history}
 use Rattle.perp_loop.specs.Walking.{IsFinished, Walking, owed, slots_left}
 use Rattle.perp_loop.proofs.Crewed.{zip_get_or}

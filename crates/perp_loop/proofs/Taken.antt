@@ -25,14 +25,14 @@ use Rattle.store_buffer.specs.Generator.{asks_drain}
 use Rattle.load_log.specs.Values.{Values}
 use Rattle.tso_runs.specs.declared.options.Options.{Options}
 use Rattle.perp_loop.specs.Actions.{write_from, store_step, AreInRange, IsInRange, entries_after, own_steps, logged, due_before, behind, Makes}
-use Rattle.tso_runs.specs.Drained.{kind_as, drains_due, turns_of, DrainsWhereDue}
+use Rattle.tso_runs.specs.Drained.{kind_as, drains_due}
 use Rattle.tso_runs.specs.SharedSteps.{shared_steps, steps_of}
 use Rattle.perp_loop.specs.Sound.{drain_event, IsWriteOf, IsPlace, IsSound}
 use Rattle.perp_loop.specs.Walking.{Walking, slots_left, Finishes, buffer_after, actions_in, Takes, StandsFor, IsTurn, TakesTurn}
 use Rattle.tso_runs.specs.Fits.{IsLawful}
 use Rattle.perp_loop.proofs.Finishing.{can_finish}
 use Rattle.perp_loop.proofs.Acted.{at_site, agrees-action, steps-action, buffer-action, own-action, in_range-action, values-event, weight_of_action, empty_behind}
-use Rattle.tso_runs.proofs.Rest.{IsRest}
+use Rattle.tso_runs.proofs.Rest.{IsRest, is_rest, rest_drained}
 use Rattle.perp_loop.proofs.Slots.{left_at}
 use Rattle.perp_loop.proofs.Turn.{store_of, kind_as-not_drain, drains_of, shared_steps-drains, buffer_after-drains, buffer_after-append, values-drains, before_turn, before_last}
 
@@ -49,14 +49,11 @@ walking test table options t m buffer log = record {
 }
 
 pub rest_from_finishes : (w : Walking) (rest : List Event) → Finishes w rest → IsRest w.test w.options w.thread (slots_left w) w.buffer w.made 0 rest
-rest_from_finishes w rest f =
-    let n : length w.buffer ≡ length w.buffer + 0 = omega arith in
-    record { own = f.own; fills = f.performs; keeps = f.keeps; drained = subst (λ n. DrainsWhereDue w.options w.thread w.made n (turns_of rest)) n f.drained }
+rest_from_finishes w rest f = is_rest w.test w.options w.thread (slots_left w) w.buffer w.made rest f.own f.performs f.keeps f.drained
 
 pub finishes_from_rest : (w : Walking) (rest : List Event) → IsRest w.test w.options w.thread (slots_left w) w.buffer w.made 0 rest → Finishes w rest
 finishes_from_rest w rest r =
-    let n : length w.buffer + 0 ≡ length w.buffer = omega arith in
-    record { own = r.own; performs = r.fills; keeps = r.keeps; drained = subst (λ n. DrainsWhereDue w.options w.thread w.made n (turns_of rest)) n r.drained }
+    record { own = r.own; performs = r.fills; keeps = r.keeps; drained = rest_drained w.test w.options w.thread (slots_left w) w.buffer w.made rest r }
 
 -- a walker that stands for the front of a part stands for a longer front when it has taken more
 pub stands_more : (old new : Walking) (front events : List Event) → Takes old events new → (rest : List Event) × Finishes new rest → StandsFor old front → StandsFor new (front ++ events)

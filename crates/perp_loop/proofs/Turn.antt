@@ -15,11 +15,11 @@ use Rattle.tso_words.specs.declared.step.Step.{Step}
 use Rattle.tso_words.specs.declared.step.Step.TheVariants.{Store}
 use Rattle.store_buffer.specs.Generator.{asks_drain}
 use Rattle.tso_runs.specs.declared.options.Options.{Options}
-use Rattle.tso_runs.specs.Drained.{kind_as, turns_from, drains_due, pushed, DrainsWhereDue}
+use Rattle.tso_runs.specs.Drained.{kind_as, drains_due, pushed}
 use Rattle.tso_runs.specs.SharedSteps.{shared_steps}
 use Rattle.perp_loop.specs.Sound.{drain_event, IsWriteOf}
 use Rattle.perp_loop.specs.Walking.{buffer_after}
-use Rattle.tso_runs.proofs.Rest.{event, due-kind, IsRest, length_pushed}
+use Rattle.tso_runs.proofs.Rest.{AreDue, counted_from, event, due-kind, IsRest, length_pushed}
 
 abbrev pub store_of : Write → Step
 store_of w = Store w.location w.value
@@ -53,7 +53,7 @@ module _ (test : LitmusTest) (options : Options) (t : ℕ) where
         own = All-cons (λ e. e.thread ≡ t) (drain_event t w) rest refl r.own;
         fills = r.fills;
         keeps = (ap Some (sym own), r.keeps);
-        drained = subst (λ n. DrainsWhereDue options t j n (turns_from (d + 1) rest)) b r.drained;
+        drained = subst (λ n. AreDue options t j n (counted_from (d + 1) rest)) b r.drained;
       }
 
   pub before_drains : (n : ℕ) (slots : List Slot) (buffer : List Write) (j d : ℕ) (rest : List Event) → n ≤ length buffer → All (IsWriteOf test t) buffer →
@@ -77,8 +77,8 @@ module _ (test : LitmusTest) (options : Options) (t : ℕ) where
       let e = event t slot.iteration slot.place k in
       let here : Fills t slot e = record { thread = refl; iteration = refl; place = refl; kind = gives } in
       let b = length_pushed test buffer d t slot.iteration slot.place k h in
-      let later : DrainsWhereDue options t (j + 1) (pushed k (length buffer + d - d)) (turns_from 0 rest) =
-      subst (λ n. DrainsWhereDue options t (j + 1) n (turns_from 0 rest)) (sym b) r.drained in
+      let later : AreDue options t (j + 1) (pushed k (length buffer + d - d)) (counted_from 0 rest) =
+      subst (λ n. AreDue options t (j + 1) n (counted_from 0 rest)) (sym b) r.drained in
       record {
         own = All-cons (λ e. e.thread ≡ t) e rest refl r.own;
         fills = rw h (here, r.fills);
@@ -127,7 +127,7 @@ module _ (test : LitmusTest) (options : Options) (t : ℕ) where
 
   -- behind the last slot no event is left but Drains, of which nothing is asked
   NoTurns : List Event → Type 0
-  NoTurns rest = (j b d : ℕ) → AllZip (Fills t) [] (filter (λ e. not (is_drain e)) rest) → DrainsWhereDue options t j b (turns_from d rest)
+  NoTurns rest = (j b d : ℕ) → AllZip (Fills t) [] (filter (λ e. not (is_drain e)) rest) → AreDue options t j b (counted_from d rest)
 
   no_turns-cons : (s n p : ℕ) (k : Kind) (rest : List Event) → NoTurns rest → NoTurns (event s n p k ∷ rest)
   unfolding NoTurns

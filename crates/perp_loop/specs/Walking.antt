@@ -14,8 +14,9 @@ use Rattle.tso_runs.specs.declared.options.Options.{Options}
 use Rattle.perp_loop.specs.declared.went.Went.{Went}
 use Rattle.perp_loop.specs.declared.went.Went.TheVariants.{Action, Finished}
 use Rattle.tso_runs.specs.Fits.{IsLawful}
-use Rattle.tso_runs.specs.Drained.{turns_of, DrainsWhereDue}
+use Rattle.tso_runs.specs.Drained.{DrainsWhereDue}
 use Rattle.tso_runs.specs.SharedSteps.{shared_steps}
+use Rattle.tso_runs.specs.Turns.{turns_of}
 
 -- what a walker is made of, how many actions it has made, its buffer and its log
 pub record Walking : Type 0 where

@@ -19,8 +19,9 @@ use Rattle.tso_words.specs.declared.step.TracedStep.{TracedStep}
 use Rattle.tso_runs.specs.declared.options.Options.{Options}
 use Rattle.tso_runs.specs.declared.schedule.Schedule.TheVariants.{Turns}
 use Rattle.tso_runs.specs.Fits.{IsLawful}
-use Rattle.tso_runs.specs.Schedule.{IsScheduled, cut_of}
+use Rattle.tso_runs.specs.Schedule.{IsScheduled}
 use Rattle.tso_runs.specs.SharedSteps.{shared_history, shared_steps}
+use Rattle.tso_runs.specs.Turns.{turns_of}
 
 -- at rate 0 no drain is asked for, and at rate 256 each word asks for one
 
@@ -181,5 +182,5 @@ long_steps : shared_steps buf [] long_part ≡ Store 0 1 ∷ Store 1 1 ∷ []
 long_steps = refl
 
 -- its turns
-long_turns : cut_of long_part ≡ (at 0 0 0 Push ∷ []) ∷ (at 0 0 1 Push ∷ []) ∷ (at 0 0 2 (Read 1) ∷ []) ∷ (at 0 0 0 Drain ∷ []) ∷ (at 0 0 1 Drain ∷ []) ∷ [] ∷ []
+long_turns : turns_of long_part ≡ (at 0 0 0 Push ∷ []) ∷ (at 0 0 1 Push ∷ []) ∷ (at 0 0 2 (Read 1) ∷ []) ∷ (at 0 0 0 Drain ∷ []) ∷ (at 0 0 1 Drain ∷ []) ∷ [] ∷ []
 long_turns = refl

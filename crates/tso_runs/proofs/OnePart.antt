@@ -13,11 +13,10 @@ use Rattle.tso_words.specs.declared.step.Step.{Step}
 use Rattle.tso_words.specs.declared.step.Step.TheVariants.{Load}
 use Rattle.store_buffer.specs.Generator.{asks_drain}
 use Rattle.tso_runs.specs.declared.options.Options.{Options}
-use Rattle.tso_runs.specs.Drained.{turns_from, DrainsWhereDue}
 use Rattle.tso_runs.specs.SharedSteps.{shared_steps, steps_of}
 use Rattle.tso_runs.specs.Fits.{IsLawful, LawfulPartsAreOne}
 use Rattle.tso_runs.specs.Drained.{kind_as}
-use Rattle.tso_runs.proofs.Rest.{event, kind_from_gives, due_of, due-kind, IsRest, length_pushed}
+use Rattle.tso_runs.proofs.Rest.{AreDue, counted_from, event, kind_from_gives, due_of, due-kind, IsRest, is_rest, length_pushed}
 
 module _ (test : LitmusTest) (options : Options) (t : ℕ) where
   -- the Drains that are due before an action in turn j
@@ -27,7 +26,7 @@ module _ (test : LitmusTest) (options : Options) (t : ℕ) where
   -- no more Drains stand before the event of the next slot than are due
   AtMostDue : Slot → List Slot → ℕ → ℕ → List Event → Type 0
   AtMostDue slot slots j b part = (d : ℕ) →
-      AllZip (Fills t) (slot ∷ slots) (filter (λ e. not (is_drain e)) part) → DrainsWhereDue options t j b (turns_from d part) →
+      AllZip (Fills t) (slot ∷ slots) (filter (λ e. not (is_drain e)) part) → AreDue options t j b (counted_from d part) →
       d ≤ due slot.action j b
 
   at_most_due-cons :
@@ -208,7 +207,7 @@ module _ (test : LitmusTest) (options : Options) (t : ℕ) where
 
   from_lawful : (part : List Event) → IsLawful test options t part →
       IsRest test options t (slots_of_loop (body_of test t) options.iterations) [] 0 0 part
-  from_lawful part l = record { own = l.own; fills = l.performs; keeps = l.keeps; drained = l.drained }
+  from_lawful part l = is_rest test options t (slots_of_loop (body_of test t) options.iterations) [] 0 part l.own l.performs l.keeps l.drained
 
   one_part : (p q : List Event) → IsLawful test options t p → IsLawful test options t q → shared_steps test [] p ≡ shared_steps test [] q → p ≡ q
   unfolding Same

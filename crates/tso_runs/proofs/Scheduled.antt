@@ -16,10 +16,11 @@ use Rattle.store_buffer.specs.Generator.{generator_word}
 use Rattle.tso_runs.specs.declared.options.Options.{Options}
 use Rattle.tso_runs.specs.declared.schedule.Schedule.{Schedule}
 use Rattle.tso_runs.specs.declared.schedule.Schedule.TheVariants.{Turns, Seeded}
-use Rattle.tso_runs.specs.Schedule.{EachScheduleHasOneRun, Follows, IsScheduled, cut_of, joined, named, threads_left, turns_behind}
+use Rattle.tso_runs.specs.Schedule.{EachScheduleHasOneRun, Follows, IsScheduled, named, threads_left}
+use Rattle.tso_runs.specs.Turns.{joined, turns_behind, turns_of}
 use Rattle.tso_runs.proofs.Events.{updated-other, updated-same}
 use Rattle.tso_runs.proofs.Fitting.{part_of_past}
-use Rattle.tso_runs.proofs.Rest.{IsRest}
+use Rattle.tso_runs.proofs.Rest.{IsRest, is_rest, rest_drained}
 use Rattle.tso_runs.proofs.Turns.{AreOf, Built, Doing, IsOwn, RestAt, buffers_other, buffers_own, built, left_of, next_by, own_all, steps_join, taken, turn_by, weight_falls, weight_of}
 
 -- Which thread is named.
@@ -125,7 +126,7 @@ part_other t u turn rest h ne =
     ∙ ap (λ l. l ++ part_of u rest) (filter_none (λ (e : Event). e.thread == u) turn (each_weaker (λ (e : Event). e.thread ≡ t) (λ (e : Event). (e.thread == u) ≡ false) (λ e k. ne_eqb e.thread u (λ m. ne (sym k ∙ m))) turn h))
 
 -- what is left behind a turn
-left_behind : (doing : ℕ → Option Doing) (t : ℕ) (d : Doing) (next : Option Doing) (turn rest : List Event) → doing t ≡ Some d → AreOf t turn → cut_of (part_of t (turn ++ rest)) ≡ turn ∷ left_of next (part_of t rest)
+left_behind : (doing : ℕ → Option Doing) (t : ℕ) (d : Doing) (next : Option Doing) (turn rest : List Event) → doing t ≡ Some d → AreOf t turn → turns_of (part_of t (turn ++ rest)) ≡ turn ∷ left_of next (part_of t rest)
     → (u : ℕ) → updated (left_at doing (turn ++ rest)) t (drop 1 (left_at doing (turn ++ rest) t)) u ≡ left_at (updated doing t next) rest u
 left_behind doing t d next turn rest does own cut u =
     ⊎_elim
@@ -185,7 +186,7 @@ module _ (test : LitmusTest) (options : Options) (schedule : Schedule) where
       let same : h.turn ≡ turn = cc in
       let own : AreOf t turn = subst (AreOf t) same h.own in
       let left : part_of t rest ≡ h.later = append_cancel_left turn (part_of t rest) h.later (sym (part_own t turn rest own) ∙ h.whole ∙ ap (λ l. l ++ h.later) same) in
-      let cut : cut_of part ≡ turn ∷ left_of nxt (part_of t rest) = h.cut ∙ (λ i. same i ∷ left_of nxt (sym left i)) in
+      let cut : turns_of part ≡ turn ∷ left_of nxt (part_of t rest) = h.cut ∙ (λ i. same i ∷ left_of nxt (sym left i)) in
       let buffer : (after_all test s turn).buffer t ≡ own_all test (s.buffer t) h.turn = buffers_own test s t turn own ∙ ap (own_all test (s.buffer t)) (sym same) in
       let here : RestAt test options t nxt ((after_all test s turn).buffer t) (part_of t rest) =
       subst (λ b. RestAt test options t nxt b (part_of t rest)) (sym buffer) (subst (RestAt test options t nxt (own_all test (s.buffer t) h.turn)) (sym left) h.rest) in
@@ -370,8 +371,8 @@ module _ (test : LitmusTest) (options : Options) (schedule : Schedule) where
           subst (λ b. RestAt test options t (next s t d) b (part_of t rest)) buffer_then
           (subst (λ o. RestAt test options t o (then.buffer t) (part_of t rest)) (updated-same doing t (next s t d) t refl) (later.rests t))
 
-      cut_here : cut_of (part_of t (turn ++ rest)) ≡ turn ∷ left_of (next s t d) (part_of t rest)
-      cut_here = ap cut_of (part_own t turn rest front.own) ∙ front.cut (part_of t rest) rest_here
+      cut_here : turns_of (part_of t (turn ++ rest)) ≡ turn ∷ left_of (next s t d) (part_of t rest)
+      cut_here = ap turns_of (part_own t turn rest front.own) ∙ front.cut (part_of t rest) rest_here
 
       pub continues : Continues s doing i from (turn ∷ turns)
       continues = record {
@@ -447,7 +448,7 @@ module _ (test : LitmusTest) (options : Options) (schedule : Schedule) where
   pub start_good : IsGood initial start
   start_good = record { own = λ t. tt; ended = λ t h. refl; past = not_started }
 
-  pub from_start : (run : List Event) → (t : ℕ) → t < threads → left_at start run t ≡ cut_of (part_of t run)
+  pub from_start : (run : List Event) → (t : ℕ) → t < threads → left_at start run t ≡ turns_of (part_of t run)
   from_start run t l = ap (λ o. left_of o (part_of t run)) (started t l)
 
   -- turns that lead from the start to the end make a run of the schedule
@@ -458,11 +459,12 @@ module _ (test : LitmusTest) (options : Options) (schedule : Schedule) where
         legal = record { steps = c.steps; drained = e.drained };
         threads = All-from_recursion (λ (e : Event). e.thread < threads) run e.within;
         lawful = λ t l.
-            let r : IsRest test options t (slots_of_loop (body_of test t) options.iterations) [] 0 0 (part_of t run) = subst (λ o. RestAt test options t o [] (part_of t run)) (started t l) (c.rests t) in
-            record { own = r.own; performs = r.fills; keeps = r.keeps; drained = r.drained };
+            let slots = slots_of_loop (body_of test t) options.iterations in
+            let r : IsRest test options t slots [] 0 0 (part_of t run) = subst (λ o. RestAt test options t o [] (part_of t run)) (started t l) (c.rests t) in
+            record { own = r.own; performs = r.fills; keeps = r.keeps; drained = rest_drained test options t slots [] 0 (part_of t run) r };
         turns = turns;
         whole = refl;
-        follows = follows_same schedule threads 0 0 (left_at start run) (λ t. cut_of (part_of t run)) turns (from_start run) c.follows;
+        follows = follows_same schedule threads 0 0 (left_at start run) (λ t. turns_of (part_of t run)) turns (from_start run) c.follows;
       }
 
   some_run : 1 ≤ options.buffer → (run : List Event) × IsScheduled test options schedule run
@@ -477,11 +479,12 @@ module _ (test : LitmusTest) (options : Options) (schedule : Schedule) where
         ⊎_elim
         (λ l.
         let w = h.lawful t l in
-        let r : IsRest test options t (slots_of_loop (body_of test t) options.iterations) [] 0 0 (part_of t run) = record { own = w.own; fills = w.performs; keeps = w.keeps; drained = w.drained } in
+        let slots = slots_of_loop (body_of test t) options.iterations in
+        let r = is_rest test options t slots [] 0 (part_of t run) w.own w.performs w.keeps w.drained in
         subst (λ run. RestAt test options t (start t) [] (part_of t run)) h.whole (subst (λ o. RestAt test options t o [] (part_of t run)) (sym (started t l)) r))
         (λ g. subst (λ o. RestAt test options t o [] (part_of t (joined h.turns))) (sym (not_started t g)) (ap (part_of t) (sym h.whole) ∙ part_of_past threads t run h.threads g))
         (cases_lt t threads);
-    follows = follows_same schedule threads 0 0 (λ t. cut_of (part_of t run)) (left_at start (joined h.turns)) h.turns (λ t l. ap (λ run. cut_of (part_of t run)) h.whole ∙ sym (from_start (joined h.turns) t l)) h.follows;
+    follows = follows_same schedule threads 0 0 (λ t. turns_of (part_of t run)) (left_at start (joined h.turns)) h.turns (λ t l. ap (λ run. turns_of (part_of t run)) h.whole ∙ sym (from_start (joined h.turns) t l)) h.follows;
   }
 
   pub one_run : 1 ≤ options.buffer → (run : List Event) × IsScheduled test options schedule run × ((other : List Event) → IsScheduled test options schedule other → other ≡ run)

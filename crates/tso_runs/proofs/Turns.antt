@@ -1,5 +1,5 @@
 -- One thread's next turn: what stands at the front of the rest of a part, and that the turn which a state gives is it.
-use Rattle.std.proofs.Common.{◌≡◌, ◌∙◌, refl, sym, ap, subst, ℕ, zero, suc, ◌+◌, ◌-◌, ◌*◌, ◌<◌, ◌≤◌, ◌==◌, Bool, true, false, cond, not, Option, None, Some, List, [], ◌∷◌, ◌++◌, length, map, filter, take, drop, slice_get, nat_lt, arith, append_assoc, append-nil, eqb-true, length-append, ltb-true}
+use Rattle.std.proofs.Common.{◌≡◌, ◌∙◌, refl, sym, ap, subst, ℕ, zero, suc, ◌+◌, ◌-◌, ◌*◌, ◌<◌, ◌≤◌, ◌==◌, Bool, true, false, cond, not, Option, None, Some, List, [], ◌∷◌, ◌++◌, length, map, filter, take, drop, slice_get, nat_lt, arith, append_assoc, eqb-true, length-append, ltb-true}
 use Rattle.std.specs.List.{AllByRecursion as Each, AllZip}
 use Rattle.std.proofs.lemmas.List.Elements.{All-nil, All-cons}
 use Rattle.x86_subset.specs.Test.{LitmusTest}
@@ -12,12 +12,12 @@ use Rattle.seq_conv.proofs.Lists.{each_append}
 use Rattle.seq_conv.proofs.Runs.{steps_right}
 use Rattle.store_buffer.specs.Generator.{asks_drain}
 use Rattle.tso_runs.specs.declared.options.Options.{Options}
-use Rattle.tso_runs.specs.Drained.{DrainsWhereDue, drain_asked, drains_due, pushed, turns_from}
-use Rattle.tso_runs.specs.Schedule.{cut_of, turns_behind}
+use Rattle.tso_runs.specs.Drained.{kind_as, drain_asked, drains_due, pushed}
+use Rattle.tso_runs.specs.Turns.{turns_of}
+use Rattle.tso_runs.proofs.Cuts.{AreDrains, action_turn, drain_turn, drains_alone, turns_front}
 use Rattle.tso_runs.proofs.Events.{agrees_from, buffer_other, buffer_own}
 use Rattle.tso_runs.proofs.OnePart.{Acts, Drains, acts, drains, due}
-use Rattle.tso_runs.specs.Drained.{kind_as}
-use Rattle.tso_runs.proofs.Rest.{IsRest, due-kind, due_of, event, kind_from_gives, length_pushed}
+use Rattle.tso_runs.proofs.Rest.{AreDue, IsRest, counted_from, due-kind, due_of, event, kind_from_gives, length_pushed}
 
 -- States.
 
@@ -138,11 +138,10 @@ drains_come test s t (suc n) (w ∷ ws) h own = (
   drains_come test (after test s (drain_event t w)) t n ws (buffer_own test s (drain_event t w) t refl ∙ ap (drop 1) h) own.1,
 )
 
-cut_built : (t n : ℕ) (buffer : List Write) (held : List Event) (e : Event) (es : List Event) → is_drain e ≡ false → turns_behind held (drains_of t n buffer ++ e ∷ es) ≡ (held ++ (drains_of t n buffer ++ e ∷ [])) ∷ cut_of es
-cut_built t zero buffer held e es h = rw h refl
-cut_built t (suc n) [] held e es h = rw h refl
-cut_built t (suc n) (w ∷ ws) held e es h =
-    cut_built t n ws (held ++ drain_event t w ∷ []) e es h ∙ ap (λ l. l ∷ cut_of es) (append_assoc held (drain_event t w ∷ []) (drains_of t n ws ++ e ∷ []))
+all_drain : (t n : ℕ) (buffer : List Write) → AreDrains (drains_of t n buffer)
+all_drain t zero buffer = tt
+all_drain t (suc n) [] = tt
+all_drain t (suc n) (w ∷ ws) = (refl, all_drain t n ws)
 
 module _ (test : LitmusTest) (options : Options) (t : ℕ) where
   abbrev Rest : List Slot → List Write → ℕ → ℕ → List Event → Type 0
@@ -203,29 +202,13 @@ module _ (test : LitmusTest) (options : Options) (t : ℕ) where
   abbrev NoSlots : List Event → Type 0
   NoSlots part = AllZip (Fills t) [] (filter (λ e. not (is_drain e)) part)
 
-  no_turns_cons : (d : ℕ) (s n p : ℕ) (k : Kind) (es : List Event) → (NoSlots es → turns_from (d + 1) es ≡ []) → NoSlots (event s n p k ∷ es) → turns_from d (event s n p k ∷ es) ≡ []
+  no_turns_cons : (d : ℕ) (s n p : ℕ) (k : Kind) (es : List Event) → (NoSlots es → counted_from (d + 1) es ≡ []) → NoSlots (event s n p k ∷ es) → counted_from d (event s n p k ∷ es) ≡ []
   no_turns_cons d s n p Drain es rec h = rec h
   no_turns_cons d s n p k es rec h = absurd h
 
-  no_turns : (d : ℕ) (part : List Event) → NoSlots part → turns_from d part ≡ []
+  no_turns : (d : ℕ) (part : List Event) → NoSlots part → counted_from d part ≡ []
   no_turns d [] h = refl
   no_turns d (e ∷ es) h = no_turns_cons d e.thread e.iteration e.place e.kind es (no_turns (d + 1) es) h
-
-  abbrev singles : List Event → List (List Event)
-  singles es = map (λ e. e ∷ []) es ++ [] ∷ []
-
-  singles_cons : (held : List Event) (s n p : ℕ) (k : Kind) (es : List Event) → (NoSlots es → turns_behind (held ++ event s n p k ∷ []) es ≡ singles ((held ++ event s n p k ∷ []) ++ es)) → NoSlots (event s n p k ∷ es)
-      → turns_behind held (event s n p k ∷ es) ≡ singles (held ++ event s n p k ∷ es)
-  singles_cons held s n p Drain es rec h = rec h ∙ ap singles (append_assoc held (event s n p Drain ∷ []) es)
-  singles_cons held s n p k es rec h = absurd h
-
-  all_singles : (held part : List Event) → NoSlots part → turns_behind held part ≡ singles (held ++ part)
-  all_singles held [] h = ap singles (sym (append-nil held))
-  all_singles held (e ∷ es) h = singles_cons held e.thread e.iteration e.place e.kind es (all_singles (held ++ e ∷ []) es) h
-
-  -- a Drain in front is a turn by itself
-  cut_single : (d : Event) (es : List Event) → is_drain d ≡ true → NoSlots es → cut_of (d ∷ es) ≡ (d ∷ []) ∷ cut_of es
-  cut_single d es k h = rw k (all_singles (d ∷ []) es h ∙ ap (λ l. (d ∷ []) ∷ l) (sym (all_singles [] es h)))
 
   -- the Drains of the turn that are done do not count there
   anew : (buffer : List Write) (j d e : ℕ) (part : List Event) → Rest [] buffer j d part → Rest [] buffer j e part
@@ -262,7 +245,7 @@ module _ (test : LitmusTest) (options : Options) (t : ℕ) where
   rest_drain : (slots : List Slot) (w : Write) (ws : List Write) (j d : ℕ) (es : List Event) → IsOwn test t w → Rest slots ws j (d + 1) es → Rest slots (w ∷ ws) j d (drain_event t w ∷ es)
   rest_drain slots w ws j d es own r =
       let long : length ws + (d + 1) ≡ length (w ∷ ws) + d = omega arith in
-      let P : ℕ → Type 0 = λ b. DrainsWhereDue options t j b (turns_from (d + 1) es) in
+      let P : ℕ → Type 0 = λ b. AreDue options t j b (counted_from (d + 1) es) in
       record {
         own = All-cons (λ (e : Event). e.thread ≡ t) (drain_event t w) es refl r.own;
         fills = r.fills;
@@ -277,7 +260,7 @@ module _ (test : LitmusTest) (options : Options) (t : ℕ) where
       let b : pushed e.kind (length buffer + d - d) ≡ length (own_after test buffer e) + 0 = length_pushed test buffer d e.thread e.iteration e.place e.kind h in
       let first : d ≡ drains_due e.kind options.buffer (asks_drain options.seed t options.rate j) (length buffer + d) =
       now ∙ sym (due-kind slot.action e.kind f.kind options.buffer (asks_drain options.seed t options.rate j) (length buffer + d)) in
-      let P : ℕ → Type 0 = λ b. DrainsWhereDue options t (j + 1) b (turns_from 0 es) in
+      let P : ℕ → Type 0 = λ b. AreDue options t (j + 1) b (counted_from 0 es) in
       record {
         own = All-cons (λ (e : Event). e.thread ≡ t) e es f.thread r.own;
         fills = rw h (f, r.fills);
@@ -302,7 +285,7 @@ pub record Doing : Type 0 where
 -- where a thread has something to do, the next turn is not taken; the last one is empty
 abbrev pub left_of : Option Doing → List Event → List (List Event)
 left_of None part = []
-left_of (Some d) part = cut_of part
+left_of (Some d) part = turns_of part
 
 pub steps_join : (test : LitmusTest) (s : State) (xs ys : List Event) → Steps test s xs → Steps test (after_all test s xs) ys → Steps test s (xs ++ ys)
 steps_join test s [] ys h k = k
@@ -364,7 +347,7 @@ module _ (test : LitmusTest) (options : Options) (t : ℕ) where
     pub turn : List Event
     pub later : List Event
     pub whole : part ≡ turn ++ later
-    pub cut : cut_of part ≡ turn ∷ left_of (next_by slots j buffer) later
+    pub cut : turns_of part ≡ turn ∷ left_of (next_by slots j buffer) later
     pub own : AreOf t turn
     pub is : Steps test s turn → turn ≡ turn_by s slots j buffer
     pub rest : RestAt (next_by slots j buffer) (own_all test buffer turn) later
@@ -382,7 +365,7 @@ module _ (test : LitmusTest) (options : Options) (t : ℕ) where
         turn = ds ++ h.here ∷ [];
         later = h.later;
         whole = h.whole ∙ sym (append_assoc ds (h.here ∷ []) h.later);
-        cut = ap cut_of h.whole ∙ cut_built t h.count buffer [] h.here h.later no_drain;
+        cut = ap turns_of h.whole ∙ turns_front [] ds h.here h.later (all_drain t h.count buffer) no_drain;
         own = each_append (λ e. e.thread ≡ t) ds (h.here ∷ []) (are_drains t h.count buffer) (h.fills.thread, tt);
         is = λ k.
             ap (λ e. ds ++ e ∷ []) (is_now test (after_all test s ds) t slot h.here h.fills (steps_right test s ds (h.here ∷ []) k).0)
@@ -395,14 +378,14 @@ module _ (test : LitmusTest) (options : Options) (t : ℕ) where
         turn = drain_event t w ∷ [];
         later = h.later;
         whole = h.whole;
-        cut = ap cut_of h.whole ∙ cut_single test options t (drain_event t w) h.later refl h.rest.fills;
+        cut = ap turns_of h.whole ∙ drain_turn (drain_event t w) h.later refl (drains_alone t h.later h.rest.fills);
         own = (refl, tt);
         is = λ k. refl;
         rest = h.rest;
       }
   taken s [] j [] part r =
       let e = nothing_left test options t j part r in
-      record { turn = []; later = []; whole = e; cut = ap cut_of e; own = tt; is = λ k. refl; rest = refl }
+      record { turn = []; later = []; whole = e; cut = ap turns_of e; own = tt; is = λ k. refl; rest = refl }
 
   -- the turn of the state can stand in front of what is left behind it
   pub record Built (s : State) (slots : List Slot) (j : ℕ) (buffer : List Write) : Type 0 where
@@ -411,7 +394,7 @@ module _ (test : LitmusTest) (options : Options) (t : ℕ) where
     pub kept : Each (IsOwn test t) (own_all test buffer (turn_by s slots j buffer))
     pub back : (later : List Event) → RestAt (next_by slots j buffer) (own_all test buffer (turn_by s slots j buffer)) later → IsRest test options t slots buffer j 0 (turn_by s slots j buffer ++ later)
     pub cut : (later : List Event) → RestAt (next_by slots j buffer) (own_all test buffer (turn_by s slots j buffer)) later
-        → cut_of (turn_by s slots j buffer ++ later) ≡ turn_by s slots j buffer ∷ left_of (next_by slots j buffer) later
+        → turns_of (turn_by s slots j buffer ++ later) ≡ turn_by s slots j buffer ∷ left_of (next_by slots j buffer) later
 
   pub built : (s : State) (slots : List Slot) (j : ℕ) (buffer : List Write) → s.buffer t ≡ buffer → Each (IsOwn test t) buffer → 1 ≤ options.buffer → Built s slots j buffer
   built s (slot ∷ slots) j buffer h own one =
@@ -435,21 +418,21 @@ module _ (test : LitmusTest) (options : Options) (t : ℕ) where
         back = λ later r.
             subst (λ part. IsRest test options t (slot ∷ slots) buffer j 0 part) (sym (append_assoc ds (e ∷ []) later))
             (build test options t c slot slots buffer j 0 e later few own fills agrees now (subst (λ b. IsRest test options t slots b (j + 1) 0 later) behind r));
-        cut = λ later r. ap cut_of (append_assoc ds (e ∷ []) later) ∙ cut_built t c buffer [] e later no_drain;
+        cut = λ later r. action_turn ds e later (all_drain t c buffer) no_drain;
       }
   built s [] j (w ∷ ws) h own one = record {
     steps = (ap (λ b. slice_get b 0) h ∙ ap (λ w. Some w) (sym own.0), tt);
     own = (refl, tt);
     kept = own.1;
     back = λ later r. rest_drain test options t [] w ws j 0 later own.0 (anew test options t ws j 0 1 later r);
-    cut = λ later r. cut_single test options t (drain_event t w) later refl r.fills;
+    cut = λ later r. drain_turn (drain_event t w) later refl (drains_alone t later r.fills);
   }
   built s [] j [] h own one = record {
     steps = tt;
     own = tt;
     kept = tt;
     back = λ later e. subst (λ part. IsRest test options t [] [] j 0 part) (sym e) (record { own = All-nil (λ (e : Event). e.thread ≡ t); fills = tt; keeps = refl; drained = tt });
-    cut = λ later e. ap cut_of e;
+    cut = λ later e. ap turns_of e;
   }
 
   -- a number that falls with each turn

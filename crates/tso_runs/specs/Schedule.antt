@@ -1,10 +1,10 @@
 -- The run of a schedule: lawful parts cut into turns, which the threads take one at a time. The machine is x86-TSO (Sewell, Sarkar,
--- Owens, Zappa Nardelli and Myreen, CACM 2010); schedules and turns are this project's own.
-use Rattle.std.specs.Prelude.{◌≡◌, ℕ, ◌+◌, ◌<◌, ◌≤◌, ◌%◌, All, Option, Some, List, [], ◌∷◌, ◌++◌, drop, filter, find, if◌then◌else◌, length, map, nat_le, nat_lt, slice_get}
+-- Owens, Zappa Nardelli and Myreen, CACM 2010); schedules are this project's own.
+use Rattle.std.specs.Prelude.{◌≡◌, ℕ, ◌+◌, ◌<◌, ◌≤◌, ◌%◌, All, Option, Some, List, [], ◌∷◌, drop, filter, find, length, nat_le, nat_lt, slice_get}
 use Rattle.std.specs.List.{range_with_len}
 use Rattle.std.specs.Option.{option_or}
 use Rattle.x86_subset.specs.Test.{LitmusTest}
-use Rattle.seq_conv.specs.Event.{Event, is_drain}
+use Rattle.seq_conv.specs.Event.{Event}
 use Rattle.seq_conv.specs.Machine.{IsLegal, updated}
 use Rattle.seq_conv.specs.Run.{IsRunOf}
 use Rattle.seq_conv.specs.Part.{part_of}
@@ -13,20 +13,7 @@ use Rattle.tso_runs.specs.declared.options.Options.{Options}
 use Rattle.tso_runs.specs.declared.schedule.Schedule.{Schedule}
 use Rattle.tso_runs.specs.declared.schedule.Schedule.TheVariants.{Turns, Seeded}
 use Rattle.tso_runs.specs.Fits.{IsLawful}
-
--- The turns of a part behind these Drains: each event that is no Drain with the Drains directly before it, then each Drain that is
--- left by itself, and at the end an empty turn.
-abbrev pub turns_behind : List Event → List Event → List (List Event)
-turns_behind drains [] = map (λ d. d ∷ []) drains ++ [] ∷ []
-turns_behind drains (e ∷ es) = if is_drain e then turns_behind (drains ++ e ∷ []) es else ((drains ++ e ∷ []) ∷ turns_behind [] es)
-
-abbrev pub cut_of : List Event → List (List Event)
-cut_of part = turns_behind [] part
-
--- turns one after another
-abbrev pub joined : List (List Event) → List Event
-joined [] = []
-joined (turn ∷ turns) = turn ++ joined turns
+use Rattle.tso_runs.specs.Turns.{joined, turns_of}
 
 -- the threads that have turns left, in rising order
 abbrev pub threads_left : ℕ → (ℕ → List (List Event)) → List ℕ
@@ -52,7 +39,7 @@ pub record IsScheduled (test : LitmusTest) (options : Options) (schedule : Sched
   pub lawful : (t : ℕ) → t < length test.bodies → IsLawful test options t (part_of t run)
   pub turns : List (List Event)
   pub whole : run ≡ joined turns
-  pub follows : Follows schedule (length test.bodies) 0 0 (λ t. cut_of (part_of t run)) turns
+  pub follows : Follows schedule (length test.bodies) 0 0 (λ t. turns_of (part_of t run)) turns
 
 -- law: where buffers have room for a write, each schedule has exactly one run
 abbrev pub EachScheduleHasOneRun : Type 0
