@@ -4,7 +4,6 @@ pub mod Answering
 pub mod VerdictSaid
 pub mod ShowingSaid
 pub mod SkewOfRuns
-pub mod OneWriter
 pub mod WitnessOfRuns
 pub mod SectionLogs
 pub mod OrderFound

@@ -1,14 +1,12 @@
 -- Which refusal is due for a command and its input: this project's own order of refusals.
-use Rattle.std.specs.Prelude.{◌≡◌, ◌≤◌, ℕ, zero, suc, ◌+◌, ◌*◌, Bool, true, List, [], ◌∷◌, length, codes, map, nat_lt, if◌then◌else◌, Option, None, Some, Result, Ok, Err, option_map, MatchBool}
+use Rattle.std.specs.Prelude.{◌≡◌, ◌≤◌, ℕ, ◌*◌, Bool, true, List, [], length, codes, map, nat_lt, if◌then◌else◌, Option, None, Some, Result, Ok, Err, option_map, MatchBool}
 use Rattle.std.specs.List.{range_with_len}
 use Rattle.perp_base.specs.Bytes.{GaveAll, IsOver}
 use Rattle.perp_base.specs.Causes.{Rose}
 use Rattle.x86_subset.specs.Test.{LitmusTest, body_of, columns_of}
 use Rattle.load_log.specs.Values.{Values}
-use Rattle.seq_conv.specs.Sequence.{Site, stores_of}
 use Rattle.litmus_reader.specs.Answer.{Answer, Accepted, Refused as Unread, Over as TooLarge}
 use Rattle.litmus_reader.specs.Reading.{Reads}
-use Rattle.profile_check.specs.Kinds.{stand_in}
 use Rattle.profile_check.specs.Profile.{profile_of}
 use Rattle.report_text.specs.declared.status.Over.TheVariants.{Input}
 use Rattle.report_text.specs.declared.status.Status.TheVariants.{Memory, Usage, ReadFault, Limit}
@@ -16,6 +14,7 @@ use Rattle.run_text.specs.Events.{events_of}
 use Rattle.run_text.specs.Logs.{logs_of}
 use Rattle.run_text.specs.Sections.{Split, split_of}
 use Rattle.perp_loop.specs.Replaying.{sum_below}
+use Rattle.run_witness.specs.Order.{several_writers}
 use Rattle.perp_base.specs.View.{View}
 use Rattle.program_edge.specs.Form.{due_for_atoms, due_for_form}
 use Rattle.tool_core.specs.Words.{command_of}
@@ -64,18 +63,9 @@ abbrev pub section_logs : LitmusTest → Split → Result (List Values) ℕ
 section_logs test parts =
     logs_of (map (columns_of test) (range_with_len 0 (length test.bodies))) parts.iterations parts.line parts.lines
 
--- the stores stand in one thread, if there are any
-abbrev pub have_one_writer : List Site → Bool
-have_one_writer [] = true
-have_one_writer (s ∷ ss) = stand_in s.thread ss
-
--- the first of so many locations, from x on, whose stores stand in several threads
-abbrev pub several_from : LitmusTest → ℕ → ℕ → Option ℕ
-several_from test x zero = None
-several_from test x (suc more) = if have_one_writer (stores_of test x) then several_from test (x + 1) more else Some x
-
+-- stores of a location in several threads
 abbrev pub due_for_writers : LitmusTest → Option ToolStatus
-due_for_writers test = option_map SeveralWriters (several_from test 0 (length test.locations))
+due_for_writers test = option_map SeveralWriters (several_writers test)
 
 -- how many events a run of so many iterations has at most: two for each action
 abbrev pub most_events_of : LitmusTest → ℕ → ℕ

@@ -2,49 +2,18 @@
 ghost use Rattle.std.specs.Prelude.{◌≡◌, ◌≤◌, ◌*◌, length, nat_lt, IfSome, IsNone};
 ghost use Rattle.x86_subset.specs.Test.{body_of};
 ghost use Rattle.seq_conv.specs.Numbers.{AreOf};
-ghost use Rattle.profile_check.specs.Kinds.{stand_in};
 ghost use Rattle.perp_loop.specs.Replaying.{sum_below};
 ghost use Rattle.run_witness.specs.Order.{HasWriters};
 ghost use Rattle.tool_core.specs.Status.{HasToolKind};
-ghost use Rattle.tool_core.specs.Due.{due_for_witness, have_one_writer, most_events_of, several_from};
+ghost use Rattle.tool_core.specs.Due.{due_for_witness, most_events_of};
 
 use crate::status::ToolStatus;
-use seq_conv::{Sequences, Site};
+use run_witness::several_writers;
+use seq_conv::Sequences;
 use x86_subset::Test;
 
 // The most events of a run that is sought.
 const MOST_EVENTS: u64 = 1_000_000;
-
-// Whether the stores all stand in this thread.
-fn stand_in(thread: u32, sites: &[Site]) -> bool
-    ensures { result ≡ stand_in thread sites.now }
-{
-    sites.iter().all(|site| site.thread == thread)
-}
-
-// Whether the stores stand in one thread, if there are any.
-fn have_one_writer(sites: &[Site]) -> bool
-    ensures { result ≡ have_one_writer sites.now }
-{
-    match sites {
-        [] => true,
-        [first, rest @ ..] => stand_in(first.thread, rest),
-    }
-}
-
-// The first location whose stores stand in several threads.
-fn several_writers(test: &Test, sequences: &Sequences) -> Option<u32>
-    requires { AreOf test.now sequences.now }
-    ensures { result ≡ several_from test.now 0 (length test.now.locations) }
-{
-    let _threads = test.threads();
-    for x in 0..test.locations().len() {
-        if !have_one_writer(sequences.sites(x as u32)) {
-            return Some(x as u32);
-        }
-    }
-    None
-}
 
 // How many actions the bodies have.
 fn action_count(test: &Test) -> u64
