@@ -61,7 +61,7 @@ drop_all : {X : Type 0} (xs : List X) → drop (length xs) xs ≡ []
 drop_all [] = refl
 drop_all (x ∷ xs) = drop_all xs
 
-gives_no_drain : (action : Instr) (k : Kind) → Gives action k → is_drain_kind k ≡ false
+pub gives_no_drain : (action : Instr) (k : Kind) → Gives action k → is_drain_kind k ≡ false
 gives_no_drain (Store loc written) Push g = refl
 gives_no_drain (Load reg loc) (Read v) g = refl
 gives_no_drain Fence Fenced g = refl
@@ -138,7 +138,7 @@ drains_come test s t (suc n) (w ∷ ws) h own = (
   drains_come test (after test s (drain_event t w)) t n ws (buffer_own test s (drain_event t w) t refl ∙ ap (drop 1) h) own.1,
 )
 
-all_drain : (t n : ℕ) (buffer : List Write) → AreDrains (drains_of t n buffer)
+pub all_drain : (t n : ℕ) (buffer : List Write) → AreDrains (drains_of t n buffer)
 all_drain t zero buffer = tt
 all_drain t (suc n) [] = tt
 all_drain t (suc n) (w ∷ ws) = (refl, all_drain t n ws)
