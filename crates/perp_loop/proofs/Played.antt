@@ -15,16 +15,13 @@ use Rattle.tso_runs.specs.declared.options.Options.{Options}
 use Rattle.tso_runs.specs.SharedSteps.{shared_history, shared_steps, steps_of}
 use Rattle.tso_runs.specs.Turns.{IsTurnBefore, turns_of}
 use Rattle.tso_runs.proofs.Cuts.{AreDrains, drain_turn, drains_alone, turns_front}
-use Rattle.perp_loop.specs.Walking.{actions_in, buffer_after}
+use Rattle.perp_loop.specs.Walking.{actions_in}
 use Rattle.tso_runs.proofs.Events.{buffer_own, history_part-tagged_own, memory_traced, needs_from, tagged, traced}
 use Rattle.tso_runs.proofs.Memories.{FindsAll}
 use Rattle.tso_runs.proofs.Rest.{IsRest}
 use Rattle.tso_runs.proofs.Runs.{FindsAll-back}
-use Rattle.tso_runs.proofs.Turns.{AreOf, all_drain, drain_event, drains_of, end_split, gives_no_drain, next_by, nothing_left, own_all, split, taken, turn_by}
-
-pub own_all-buffer : (test : LitmusTest) (buffer : List Write) (es : List Event) → own_all test buffer es ≡ buffer_after test buffer es
-own_all-buffer test buffer [] = refl
-own_all-buffer test buffer (e ∷ es) = own_all-buffer test (own_after test buffer e) es
+use Rattle.tso_runs.specs.Own.{drain_event}
+use Rattle.tso_runs.proofs.Turns.{AreOf, all_drain, drains_of, end_split, gives_no_drain, next_by, nothing_left, split, taken, turn_by}
 
 -- Histories.
 

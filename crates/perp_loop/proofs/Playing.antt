@@ -26,7 +26,7 @@ use Rattle.tso_runs.specs.Schedule.{named}
 use Rattle.tso_runs.specs.SharedSteps.{shared_history, shared_steps}
 use Rattle.perp_loop.specs.Walking.{IsFinished, TakesTurn, Walking, buffer_after, owed, slots_left}
 use Rattle.tso_runs.proofs.Memories.{FindsAll, finds_memory, memory_after, same_zeros, zeros}
-use Rattle.perp_loop.proofs.Played.{entries_of, gained_is, next_left, own_all-buffer, same_turn, steps_from}
+use Rattle.perp_loop.proofs.Played.{entries_of, gained_is, next_left, same_turn, steps_from}
 use Rattle.perp_loop.proofs.Replayed.{IsPlayer, Plays, TodoOf, live_are, plays_turn, someone, sum_same, sum_swap, todo_of, walker_at}
 use Rattle.tso_runs.proofs.Rest.{IsRest}
 use Rattle.tso_runs.proofs.Runs.{FindsAll-back, memory_all}
@@ -132,7 +132,7 @@ module _ (job : Job) (schedule : Schedule) where
         plays_turn job schedule places (set places t new) playing (set playing t true) from generator generator' trace trace' p one t d below does named_live
         k.turn is new refl (flags true) lane
         (record { test = ap (λ (v : Walking). v.test) k.takes.same; options = ap (λ (v : Walking). v.options) k.takes.same; thread = ap (λ (v : Walking). v.thread) k.takes.same })
-        (k.takes.buffer ∙ ap (λ x. buffer_after x w.buffer k.turn) q.test ∙ ap (λ b. buffer_after test b k.turn) (sym q.buffer) ∙ sym (own_all-buffer test (state.buffer t) k.turn))
+        (k.takes.buffer ∙ ap (λ x. buffer_after x w.buffer k.turn) q.test ∙ ap (λ b. buffer_after test b k.turn) (sym q.buffer))
         k.takes.log
         history
         (subst (λ b. TodoOf b (next test job.options schedule state t d) new.walker) (sym (flag_now true)) todo)

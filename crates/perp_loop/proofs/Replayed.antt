@@ -28,7 +28,8 @@ use Rattle.tso_runs.proofs.Fitting.{scheduled_run}
 use Rattle.perp_loop.proofs.Played.{shared_history-append}
 use Rattle.perp_loop.proofs.Rows.{zip_length}
 use Rattle.tso_runs.proofs.Scheduled.{Continues, Ends, IsGood, after_all-append, all_none, at_end, buffer_then, continues, ends_here, front, good_then, live, named_some, next, part_other, part_own, range_each, scheduled_by, start, turn_of}
-use Rattle.tso_runs.proofs.Turns.{AreOf, Doing, buffers_other, own_all}
+use Rattle.tso_runs.specs.Own.{buffer_after}
+use Rattle.tso_runs.proofs.Turns.{AreOf, Doing, buffers_other}
 
 -- Sums.
 
@@ -134,7 +135,7 @@ module _ (job : Job) (schedule : Schedule) where
       → (new : Placed) → places' ≡ set places t new
       → ((u : ℕ) → (t ≡ u → ⊥) → slice_index_or playing' u false ≡ slice_index_or playing u false)
       → new.lane ≡ None → IsSameWalker (walker_at job places t) new.walker
-      → new.walker.buffer ≡ own_all job.test (p.state.buffer t) turn
+      → new.walker.buffer ≡ buffer_after job.test (p.state.buffer t) turn
       → new.walker.log ≡ (walker_at job places t).log ++ filter_map value_read turn
       → trace'.history ≡ trace.history ++ shared_history job.test p.state turn
       → TodoOf (slice_index_or playing' t false) (next job.test job.options schedule p.state t d) new.walker
@@ -213,7 +214,7 @@ module _ (job : Job) (schedule : Schedule) where
             test = same.test ∙ old.test;
             options = same.options ∙ old.options;
             thread = same.thread ∙ old.thread;
-            buffer = buffer_then test options schedule one p.state p.doing p.good t d below does ∙ ap (own_all test (p.state.buffer t)) (sym is) ∙ sym buffer;
+            buffer = buffer_then test options schedule one p.state p.doing p.good t d below does ∙ ap (buffer_after test (p.state.buffer t)) (sym is) ∙ sym buffer;
             log = log ∙ ap (λ l. l ++ filter_map value_read turn) old.log ∙ ap (λ e. log_of t p.run ++ filter_map value_read e) is
                 ∙ sym (filter_map-append value_read (part_of t p.run) tn) ∙ ap (filter_map value_read) (sym (part_back t p.run tn own));
             todo = subst (λ o. TodoOf (slice_index_or playing' t false) o new.walker) (sym (updated-same p.doing t (next test options schedule p.state t d) t refl)) todo;

@@ -1,5 +1,5 @@
 -- A walker takes the next turn.
-use Rattle.std.proofs.Common.{◌≡◌, refl, sym, ap, ◌∙◌, subst, ℕ, ◌+◌, ◌*◌, ◌-◌, ◌≤◌, ◌<◌, Bool, true, false, not, filter, if◌then◌else◌, Some, List, [], ◌∷◌, ◌++◌, length, map, take, drop, append_assoc, append-nil, arith}
+use Rattle.std.proofs.Common.{◌≡◌, refl, sym, ap, ◌∙◌, subst, ℕ, ◌+◌, ◌*◌, ◌-◌, ◌≤◌, ◌<◌, Bool, false, not, filter, if◌then◌else◌, Some, List, [], ◌∷◌, ◌++◌, length, map, take, drop, append_assoc, append-nil, arith}
 use Rattle.std.specs.Prelude.{IsTrue, All, slice_get, count_by}
 use Rattle.std.specs.List.{AllZip, filter_map}
 use Rattle.std.proofs.lemmas.List.{length-drop, length-append, length-map, length-take-le, take-map, drop-map}

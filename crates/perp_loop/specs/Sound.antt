@@ -5,23 +5,14 @@ use Rattle.seq_conv.specs.Numbers.{Table, AreOf}
 use Rattle.x86_subset.specs.Instr.{is_reading}
 use Rattle.x86_subset.specs.Shape.{IsTest}
 use Rattle.x86_subset.specs.Test.{body_of}
-use Rattle.seq_conv.specs.Event.{Event, Drain}
-use Rattle.seq_conv.specs.Machine.{Write, write_of}
 use Rattle.seq_conv.specs.Part.{slots_of_loop}
 use Rattle.store_buffer.specs.Asking.{Asking}
 use Rattle.store_buffer.specs.Contents.{Contents}
 use Rattle.load_log.specs.Values.{Values}
 use Rattle.tso_runs.specs.declared.options.Options.{Options}
 use Rattle.tso_runs.specs.Fits.{IsWithinLimits}
+pub use Rattle.tso_runs.specs.Own.{drain_event, IsWriteOf}
 use Rattle.perp_loop.specs.Actions.{write_from, AreInRange}
-
--- the Drain of a write
-abbrev pub drain_event : ℕ → Write → Event
-drain_event t w = record { thread = t; iteration = w.iteration; place = w.place; kind = Drain }
-
--- the write is one of thread t
-abbrev pub IsWriteOf : LitmusTest → ℕ → Write → Type 0
-IsWriteOf test t w = write_of test (drain_event t w) ≡ w
 
 -- the next action stands at place p of iteration i, of n iterations of a body of this length; in the end i is n
 pub record IsPlace (n len i p : ℕ) : Type 0 where

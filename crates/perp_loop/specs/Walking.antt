@@ -1,6 +1,6 @@
 -- What contracts see of a walker, and what it does to a lawful part: this project's own, over the events of x86-TSO (Sewell, Sarkar, Owens,
 -- Zappa Nardelli and Myreen, CACM 2010).
-use Rattle.std.specs.Prelude.{◌≡◌, ℕ, ◌+◌, ◌<◌, ◌≤◌, not, All, List, [], ◌∷◌, ◌++◌, length, drop, filter, count_by}
+use Rattle.std.specs.Prelude.{◌≡◌, ℕ, ◌+◌, ◌<◌, ◌≤◌, not, All, List, [], ◌++◌, length, drop, filter, count_by}
 use Rattle.std.specs.List.{AllZip, filter_map}
 use Rattle.x86_subset.specs.Test.{LitmusTest}
 use Rattle.x86_subset.specs.Test.{body_of}
@@ -8,7 +8,7 @@ use Rattle.seq_conv.specs.Numbers.{Table}
 use Rattle.seq_conv.specs.Event.{Event, is_drain}
 use Rattle.seq_conv.specs.Log.{value_read}
 use Rattle.seq_conv.specs.Machine.{Write}
-use Rattle.seq_conv.specs.Part.{Slot, slots_of_loop, Fills, KeepsBuffer, own_after}
+use Rattle.seq_conv.specs.Part.{Slot, slots_of_loop, Fills, KeepsBuffer}
 use Rattle.tso_words.specs.declared.step.Step.{Step}
 use Rattle.tso_words.specs.Appended.{Appends}
 use Rattle.tso_runs.specs.declared.options.Options.{Options}
@@ -16,6 +16,7 @@ use Rattle.perp_loop.specs.declared.went.Went.{Went}
 use Rattle.perp_loop.specs.declared.went.Went.TheVariants.{Action, Finished}
 use Rattle.tso_runs.specs.Fits.{IsLawful}
 use Rattle.tso_runs.specs.Drained.{DrainsWhereDue}
+pub use Rattle.tso_runs.specs.Own.{buffer_after}
 use Rattle.tso_runs.specs.SharedSteps.{shared_steps}
 use Rattle.tso_runs.specs.Turns.{IsCutBetween, IsTurnBefore, turns_of}
 
@@ -39,11 +40,6 @@ pub record Finishes (w : Walking) (rest : List Event) : Type 0 where
   pub performs : AllZip (Fills w.thread) (slots_left w) (filter (λ e. not (is_drain e)) rest)
   pub keeps : KeepsBuffer w.test w.buffer rest
   pub drained : DrainsWhereDue w.options w.thread w.made (length w.buffer) (turns_of rest)
-
--- the own buffer after these events
-abbrev pub buffer_after : LitmusTest → List Write → List Event → List Write
-buffer_after test buffer [] = buffer
-buffer_after test buffer (e ∷ es) = buffer_after test (own_after test buffer e) es
 
 -- how many events are no Drains
 abbrev pub actions_in : List Event → ℕ

@@ -49,7 +49,8 @@ pub record Counted : Type 0 where
 -- the turns of a part that have an action, where so many Drains stand before the part already
 abbrev pub counted_from : ℕ → List Event → List Counted
 counted_from d [] = []
-counted_from d (e ∷ es) = if is_drain e then counted_from (d + 1) es else (record { drains = d; event = e } ∷ counted_from 0 es)
+counted_from d (e ∷ es) =
+    if is_drain e then counted_from (d + 1) es else (record { drains = d; event = e } ∷ counted_from 0 es)
 
 -- as many Drains as are due, from turn j on
 abbrev pub AreDue : Options → ℕ → ℕ → ℕ → List Counted → Type 0
@@ -78,19 +79,22 @@ module _ (options : Options) (t : ℕ) where
       × (AreDue options t j b (counted_from (length held) part) → DrainsWhereDue options t j b (turns_behind held part))
 
   same_turn : (ds : List Event) (e : Event) (es : List Event) (j b : ℕ) → AreDrains ds → is_drain e ≡ false → Same es →
-      (DrainsWhereDue options t j b ((ds ++ e ∷ []) ∷ turns_of es) → AreDue options t j b (record { drains = length ds; event = e } ∷ counted_from 0 es))
-      × (AreDue options t j b (record { drains = length ds; event = e } ∷ counted_from 0 es) → DrainsWhereDue options t j b ((ds ++ e ∷ []) ∷ turns_of es))
+      let counted : List Counted = record { drains = length ds; event = e } ∷ counted_from 0 es in
+      (DrainsWhereDue options t j b ((ds ++ e ∷ []) ∷ turns_of es) → AreDue options t j b counted)
+      × (AreDue options t j b counted → DrainsWhereDue options t j b ((ds ++ e ∷ []) ∷ turns_of es))
   same_turn ds e es j b drains acts same =
       let later = same [] (j + 1) (pushed e.kind (b - length ds)) tt in
-      rw (one_action ds e drains acts, count_before ds e drains acts) ((λ h. (h.0, later.0 h.1)), (λ h. (h.0, later.1 h.1)))
+      rw (one_action ds e drains acts, count_before ds e drains acts)
+      ((λ h. (h.0, later.0 h.1)), (λ h. (h.0, later.1 h.1)))
 
   same_drain : (held : List Event) (d : Event) (es : List Event) (j b : ℕ) → AreDrains held → is_drain d ≡ true → Same es →
-      (DrainsWhereDue options t j b (turns_behind (held ++ d ∷ []) es) → AreDue options t j b (counted_from (length held + 1) es))
-      × (AreDue options t j b (counted_from (length held + 1) es) → DrainsWhereDue options t j b (turns_behind (held ++ d ∷ []) es))
+      let counted = counted_from (length held + 1) es in
+      (DrainsWhereDue options t j b (turns_behind (held ++ d ∷ []) es) → AreDue options t j b counted)
+      × (AreDue options t j b counted → DrainsWhereDue options t j b (turns_behind (held ++ d ∷ []) es))
   same_drain held d es j b drains drain same =
       let long : length (held ++ d ∷ []) ≡ length held + 1 = length-append held (d ∷ []) in
-      let both = same (held ++ d ∷ []) j b (each_append (λ (e : Event). is_drain e ≡ true) held (d ∷ []) drains (drain, tt)) in
-      rw (← long) both
+      let all = each_append (λ (e : Event). is_drain e ≡ true) held (d ∷ []) drains (drain, tt) in
+      rw (← long) (same (held ++ d ∷ []) j b all)
 
   same_cons : (e : Event) (es : List Event) (c : Bool) → is_drain e ≡ c → Same es → Same (e ∷ es)
   same_cons e es true is same held j b drains = rw is (same_drain held e es j b drains is same)
@@ -101,10 +105,12 @@ module _ (options : Options) (t : ℕ) where
   same [] (d ∷ ds) j b drains = ((λ h. tt), (λ h. rw (drains.0) tt))
   same (e ∷ es) held j b drains = same_cons e es (is_drain e) refl (same es) held j b drains
 
-  pub counted : (part : List Event) (j b : ℕ) → DrainsWhereDue options t j b (turns_of part) → AreDue options t j b (counted_from 0 part)
+  pub counted : (part : List Event) (j b : ℕ) → DrainsWhereDue options t j b (turns_of part)
+      → AreDue options t j b (counted_from 0 part)
   counted part j b h = (same part [] j b tt).0 h
 
-  pub from_counted : (part : List Event) (j b : ℕ) → AreDue options t j b (counted_from 0 part) → DrainsWhereDue options t j b (turns_of part)
+  pub from_counted : (part : List Event) (j b : ℕ) → AreDue options t j b (counted_from 0 part)
+      → DrainsWhereDue options t j b (turns_of part)
   from_counted part j b h = (same part [] j b tt).1 h
 
 -- the rest of a lawful part: its slots, the own buffer, the number of its next turn, and the Drains of this turn that are done
@@ -116,16 +122,19 @@ pub record IsRest (test : LitmusTest) (options : Options) (t : ℕ) (slots : Lis
 
 module _ (test : LitmusTest) (options : Options) (t : ℕ) (slots : List Slot) (buffer : List Write) (j : ℕ) (part : List Event) where
   -- a rest whose next turn has not begun, and the rule of the seed
-  pub is_rest : All (λ e. e.thread ≡ t) part → AllZip (Fills t) slots (filter (λ e. not (is_drain e)) part) → KeepsBuffer test buffer part
-      → DrainsWhereDue options t j (length buffer) (turns_of part) → IsRest test options t slots buffer j 0 part
+  pub is_rest : All (λ e. e.thread ≡ t) part → AllZip (Fills t) slots (filter (λ e. not (is_drain e)) part)
+      → KeepsBuffer test buffer part → DrainsWhereDue options t j (length buffer) (turns_of part) → IsRest test options t slots buffer j 0 part
   is_rest own fills keeps drained =
       let long : length buffer ≡ length buffer + 0 = omega arith in
-      record { own = own; fills = fills; keeps = keeps; drained = subst (λ b. AreDue options t j b (counted_from 0 part)) long (counted options t part j (length buffer) drained) }
+      let due = counted options t part j (length buffer) drained in
+      record { own = own; fills = fills; keeps = keeps; drained = subst (λ b. AreDue options t j b (counted_from 0 part)) long due }
 
-  pub rest_drained : IsRest test options t slots buffer j 0 part → DrainsWhereDue options t j (length buffer) (turns_of part)
+  pub rest_drained : IsRest test options t slots buffer j 0 part
+      → DrainsWhereDue options t j (length buffer) (turns_of part)
   rest_drained r =
       let long : length buffer + 0 ≡ length buffer = omega arith in
-      from_counted options t part j (length buffer) (subst (λ b. AreDue options t j b (counted_from 0 part)) long r.drained)
+      from_counted options t part j (length buffer)
+      (subst (λ b. AreDue options t j b (counted_from 0 part)) long r.drained)
 
 module _ (test : LitmusTest) where
   -- the own buffer is as long as the turns say

@@ -21,7 +21,8 @@ use Rattle.tso_runs.specs.Turns.{joined, turns_behind, turns_of}
 use Rattle.tso_runs.proofs.Events.{updated-other, updated-same}
 use Rattle.tso_runs.proofs.Fitting.{part_of_past}
 use Rattle.tso_runs.proofs.Rest.{IsRest, is_rest, rest_drained}
-use Rattle.tso_runs.proofs.Turns.{AreOf, Built, Doing, IsOwn, RestAt, buffers_other, buffers_own, built, left_of, next_by, own_all, steps_join, taken, turn_by, weight_falls, weight_of}
+use Rattle.tso_runs.specs.Own.{IsWriteOf, buffer_after}
+use Rattle.tso_runs.proofs.Turns.{AreOf, Built, Doing, RestAt, buffers_other, buffers_own, built, left_of, next_by, steps_join, taken, turn_by, weight_falls, weight_of}
 
 -- Which thread is named.
 
@@ -187,9 +188,9 @@ module _ (test : LitmusTest) (options : Options) (schedule : Schedule) where
       let own : AreOf t turn = subst (AreOf t) same h.own in
       let left : part_of t rest ≡ h.later = append_cancel_left turn (part_of t rest) h.later (sym (part_own t turn rest own) ∙ h.whole ∙ ap (λ l. l ++ h.later) same) in
       let cut : turns_of part ≡ turn ∷ left_of nxt (part_of t rest) = h.cut ∙ (λ i. same i ∷ left_of nxt (sym left i)) in
-      let buffer : (after_all test s turn).buffer t ≡ own_all test (s.buffer t) h.turn = buffers_own test s t turn own ∙ ap (own_all test (s.buffer t)) (sym same) in
+      let buffer : (after_all test s turn).buffer t ≡ buffer_after test (s.buffer t) h.turn = buffers_own test s t turn own ∙ ap (buffer_after test (s.buffer t)) (sym same) in
       let here : RestAt test options t nxt ((after_all test s turn).buffer t) (part_of t rest) =
-      subst (λ b. RestAt test options t nxt b (part_of t rest)) (sym buffer) (subst (RestAt test options t nxt (own_all test (s.buffer t) h.turn)) (sym left) h.rest) in
+      subst (λ b. RestAt test options t nxt b (part_of t rest)) (sym buffer) (subst (RestAt test options t nxt (buffer_after test (s.buffer t) h.turn)) (sym left) h.rest) in
       let P : ℕ → Type 0 = λ u. RestAt test options u (updated doing t nxt u) ((after_all test s turn).buffer u) (part_of u rest) in
       record {
         thread = t;
@@ -245,7 +246,7 @@ module _ (test : LitmusTest) (options : Options) (schedule : Schedule) where
 
   -- what holds of each state that turns lead to
   pub record IsGood (s : State) (doing : ℕ → Option Doing) : Type 0 where
-    pub own : (t : ℕ) → Each (IsOwn test t) (s.buffer t)
+    pub own : (t : ℕ) → Each (IsWriteOf test t) (s.buffer t)
     pub ended : (t : ℕ) → doing t ≡ None → s.buffer t ≡ []
     pub past : (t : ℕ) → threads ≤ t → doing t ≡ None
 
@@ -328,10 +329,10 @@ module _ (test : LitmusTest) (options : Options) (schedule : Schedule) where
     pub front : Built test options t s d.slots d.made (s.buffer t)
     front = built test options t s d.slots d.made (s.buffer t) refl (good.own t) one
 
-    pub buffer_then : then.buffer t ≡ own_all test (s.buffer t) turn
+    pub buffer_then : then.buffer t ≡ buffer_after test (s.buffer t) turn
     buffer_then = buffers_own test s t turn front.own
 
-    empty_end : (slots : List _) (j : ℕ) (buffer : List Write) → next_by test options t slots j buffer ≡ None → own_all test buffer (turn_by test options t s slots j buffer) ≡ []
+    empty_end : (slots : List _) (j : ℕ) (buffer : List Write) → next_by test options t slots j buffer ≡ None → buffer_after test buffer (turn_by test options t s slots j buffer) ≡ []
     empty_end (slot ∷ slots) j buffer h = cc
     empty_end [] j (w ∷ ws) h = cc
     empty_end [] j [] h = refl
@@ -340,8 +341,8 @@ module _ (test : LitmusTest) (options : Options) (schedule : Schedule) where
     good_then = record {
       own = λ u.
           ⊎_elim
-          (λ is. subst (λ u. Each (IsOwn test u) (then.buffer u)) is (subst (Each (IsOwn test t)) (sym buffer_then) front.kept))
-          (λ isnt. subst (Each (IsOwn test u)) (sym (buffers_other test s t u turn front.own isnt)) (good.own u))
+          (λ is. subst (λ u. Each (IsWriteOf test u) (then.buffer u)) is (subst (Each (IsWriteOf test t)) (sym buffer_then) front.kept))
+          (λ isnt. subst (Each (IsWriteOf test u)) (sym (buffers_other test s t u turn front.own isnt)) (good.own u))
           (cases_eq t u);
       ended = λ u h.
           ⊎_elim
@@ -358,7 +359,7 @@ module _ (test : LitmusTest) (options : Options) (schedule : Schedule) where
         let less : g t < f t =
         subst (λ o. weight_of test options t o (then.buffer t) < f t) (sym (updated-same doing t (next s t d) t refl))
         (subst (λ b. weight_of test options t (next s t d) b < f t) (sym buffer_then)
-        (subst (λ o. weight_of test options t (next s t d) (own_all test (s.buffer t) turn) < weight_of test options t o (s.buffer t)) (sym does)
+        (subst (λ o. weight_of test options t (next s t d) (buffer_after test (s.buffer t) turn) < weight_of test options t o (s.buffer t)) (sym does)
         (weight_falls test options t s d.slots d.made (s.buffer t)))) in
         total_falls threads t f g below less (λ u isnt. λ i. weight_of test options u (updated-other doing t (next s t d) u isnt i) (buffers_other test s t u turn front.own isnt i))
 
@@ -366,7 +367,7 @@ module _ (test : LitmusTest) (options : Options) (schedule : Schedule) where
       abbrev rest : List Event
       rest = joined turns
 
-      rest_here : RestAt test options t (next s t d) (own_all test (s.buffer t) turn) (part_of t rest)
+      rest_here : RestAt test options t (next s t d) (buffer_after test (s.buffer t) turn) (part_of t rest)
       rest_here =
           subst (λ b. RestAt test options t (next s t d) b (part_of t rest)) buffer_then
           (subst (λ o. RestAt test options t o (then.buffer t) (part_of t rest)) (updated-same doing t (next s t d) t refl) (later.rests t))

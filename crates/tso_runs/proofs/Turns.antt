@@ -13,6 +13,7 @@ use Rattle.seq_conv.proofs.Runs.{steps_right}
 use Rattle.store_buffer.specs.Generator.{asks_drain}
 use Rattle.tso_runs.specs.declared.options.Options.{Options}
 use Rattle.tso_runs.specs.Drained.{kind_as, drain_asked, drains_due, pushed}
+use Rattle.tso_runs.specs.Own.{IsWriteOf, buffer_after, drain_event}
 use Rattle.tso_runs.specs.Turns.{turns_of}
 use Rattle.tso_runs.proofs.Cuts.{AreDrains, action_turn, drain_turn, drains_alone, turns_front}
 use Rattle.tso_runs.proofs.Events.{agrees_from, buffer_other, buffer_own}
@@ -21,17 +22,12 @@ use Rattle.tso_runs.proofs.Rest.{AreDue, IsRest, counted_from, due-kind, due_of,
 
 -- States.
 
--- the own buffer after events of its thread
-abbrev pub own_all : LitmusTest → List Write → List Event → List Write
-own_all test buffer [] = buffer
-own_all test buffer (e ∷ es) = own_all test (own_after test buffer e) es
-
 abbrev pub AreOf : ℕ → List Event → Type 0
 AreOf t es = Each (λ e. e.thread ≡ t) es
 
-pub buffers_own : (test : LitmusTest) (s : State) (t : ℕ) (es : List Event) → AreOf t es → (after_all test s es).buffer t ≡ own_all test (s.buffer t) es
+pub buffers_own : (test : LitmusTest) (s : State) (t : ℕ) (es : List Event) → AreOf t es → (after_all test s es).buffer t ≡ buffer_after test (s.buffer t) es
 buffers_own test s t [] h = refl
-buffers_own test s t (e ∷ es) h = buffers_own test (after test s e) t es h.1 ∙ ap (λ b. own_all test b es) (buffer_own test s e t h.0)
+buffers_own test s t (e ∷ es) h = buffers_own test (after test s e) t es h.1 ∙ ap (λ b. buffer_after test b es) (buffer_own test s e t h.0)
 
 pub buffers_other : (test : LitmusTest) (s : State) (t u : ℕ) (es : List Event) → AreOf t es → (t ≡ u → ⊥) → (after_all test s es).buffer u ≡ s.buffer u
 buffers_other test s t u [] h ne = refl
@@ -81,7 +77,7 @@ abbrev pub event_now : LitmusTest → State → ℕ → Slot → Event
 event_now test s t slot =
     event t slot.iteration slot.place (kind_as slot.action (value_now slot.action s t (event_location test (event t slot.iteration slot.place Fenced))))
 
-gives_kind : (action : Instr) (v : ℕ) → Gives action (kind_as action v)
+pub gives_kind : (action : Instr) (v : ℕ) → Gives action (kind_as action v)
 gives_kind (Store loc written) v = tt
 gives_kind (Load reg loc) v = tt
 gives_kind Fence v = tt
@@ -110,27 +106,20 @@ can_come test s t n p (Exchange loc written reg) capacity asks buffer h = (h ∙
 
 -- Drains of the oldest writes.
 
-abbrev pub drain_event : ℕ → Write → Event
-drain_event t w = event t w.iteration w.place Drain
-
 abbrev pub drains_of : ℕ → ℕ → List Write → List Event
 drains_of t n buffer = map (drain_event t) (take n buffer)
-
--- the write is one of thread t
-abbrev pub IsOwn : LitmusTest → ℕ → Write → Type 0
-IsOwn test t w = write_of test (drain_event t w) ≡ w
 
 are_drains : (t n : ℕ) (buffer : List Write) → AreOf t (drains_of t n buffer)
 are_drains t zero buffer = tt
 are_drains t (suc n) [] = tt
 are_drains t (suc n) (w ∷ ws) = (refl, are_drains t n ws)
 
-own_drains : (test : LitmusTest) (t n : ℕ) (buffer : List Write) → own_all test buffer (drains_of t n buffer) ≡ drop n buffer
+pub own_drains : (test : LitmusTest) (t n : ℕ) (buffer : List Write) → buffer_after test buffer (drains_of t n buffer) ≡ drop n buffer
 own_drains test t zero buffer = refl
 own_drains test t (suc n) [] = refl
 own_drains test t (suc n) (w ∷ ws) = own_drains test t n ws
 
-drains_come : (test : LitmusTest) (s : State) (t n : ℕ) (buffer : List Write) → s.buffer t ≡ buffer → Each (IsOwn test t) buffer → Steps test s (drains_of t n buffer)
+drains_come : (test : LitmusTest) (s : State) (t n : ℕ) (buffer : List Write) → s.buffer t ≡ buffer → Each (IsWriteOf test t) buffer → Steps test s (drains_of t n buffer)
 drains_come test s t zero buffer h own = tt
 drains_come test s t (suc n) [] h own = tt
 drains_come test s t (suc n) (w ∷ ws) h own = (
@@ -242,7 +231,7 @@ module _ (test : LitmusTest) (options : Options) (t : ℕ) where
 
   -- The other way: what stands in front of the rest of a part.
 
-  rest_drain : (slots : List Slot) (w : Write) (ws : List Write) (j d : ℕ) (es : List Event) → IsOwn test t w → Rest slots ws j (d + 1) es → Rest slots (w ∷ ws) j d (drain_event t w ∷ es)
+  pub rest_drain : (slots : List Slot) (w : Write) (ws : List Write) (j d : ℕ) (es : List Event) → IsWriteOf test t w → Rest slots ws j (d + 1) es → Rest slots (w ∷ ws) j d (drain_event t w ∷ es)
   rest_drain slots w ws j d es own r =
       let long : length ws + (d + 1) ≡ length (w ∷ ws) + d = omega arith in
       let P : ℕ → Type 0 = λ b. AreDue options t j b (counted_from (d + 1) es) in
@@ -253,7 +242,7 @@ module _ (test : LitmusTest) (options : Options) (t : ℕ) where
         drained = subst P long r.drained;
       }
 
-  rest_event : (slot : Slot) (slots : List Slot) (buffer : List Write) (j d : ℕ) (e : Event) (es : List Event) → Fills t slot e → Agrees test buffer e → d ≡ due test options t slot.action j (length buffer + d)
+  pub rest_event : (slot : Slot) (slots : List Slot) (buffer : List Write) (j d : ℕ) (e : Event) (es : List Event) → Fills t slot e → Agrees test buffer e → d ≡ due test options t slot.action j (length buffer + d)
       → Rest slots (own_after test buffer e) (j + 1) 0 es → Rest (slot ∷ slots) buffer j d (e ∷ es)
   rest_event slot slots buffer j d e es f a now r =
       let h : is_drain e ≡ false = gives_no_drain slot.action e.kind f.kind in
@@ -268,7 +257,7 @@ module _ (test : LitmusTest) (options : Options) (t : ℕ) where
         drained = rw h (first, subst P (sym b) r.drained);
       }
 
-  build : (c : ℕ) (slot : Slot) (slots : List Slot) (buffer : List Write) (j d : ℕ) (e : Event) (es : List Event) → c ≤ length buffer → Each (IsOwn test t) buffer → Fills t slot e → Agrees test (drop c buffer) e
+  build : (c : ℕ) (slot : Slot) (slots : List Slot) (buffer : List Write) (j d : ℕ) (e : Event) (es : List Event) → c ≤ length buffer → Each (IsWriteOf test t) buffer → Fills t slot e → Agrees test (drop c buffer) e
       → d + c ≡ due test options t slot.action j (length buffer + d) → Rest slots (own_after test (drop c buffer) e) (j + 1) 0 es → Rest (slot ∷ slots) buffer j d (drains_of t c buffer ++ e ∷ es)
   build zero slot slots buffer j d e es l own f a now r = rest_event slot slots buffer j d e es f a (let k : d ≡ d + 0 = omega arith in k ∙ now) r
   build (suc c) slot slots [] j d e es l own f a now r = absurd (omega arith)
@@ -291,9 +280,9 @@ pub steps_join : (test : LitmusTest) (s : State) (xs ys : List Event) → Steps 
 steps_join test s [] ys h k = k
 steps_join test s (x ∷ xs) ys h k = (h.0, steps_join test (after test s x) xs ys h.1 k)
 
-own_all-append : (test : LitmusTest) (buffer : List Write) (xs ys : List Event) → own_all test buffer (xs ++ ys) ≡ own_all test (own_all test buffer xs) ys
-own_all-append test buffer [] ys = refl
-own_all-append test buffer (x ∷ xs) ys = own_all-append test (own_after test buffer x) xs ys
+pub buffer_after-append : (test : LitmusTest) (buffer : List Write) (xs ys : List Event) → buffer_after test buffer (xs ++ ys) ≡ buffer_after test (buffer_after test buffer xs) ys
+buffer_after-append test buffer [] ys = refl
+buffer_after-append test buffer (x ∷ xs) ys = buffer_after-append test (own_after test buffer x) xs ys
 
 each_dropped : {X : Type 0} (P : X → Type 0) (n : ℕ) (xs : List X) → Each P xs → Each P (drop n xs)
 each_dropped P zero xs h = h
@@ -305,8 +294,8 @@ long_dropped zero xs = omega arith
 long_dropped (suc n) [] = omega arith
 long_dropped (suc n) (x ∷ xs) = let h = long_dropped n xs in omega arith
 
-kept_by : (test : LitmusTest) (t n p : ℕ) (action : Instr) (v : ℕ) (buffer : List Write) → Each (IsOwn test t) buffer → Each (IsOwn test t) (own_after test buffer (event t n p (kind_as action v)))
-kept_by test t n p (Store loc written) v buffer h = each_append (IsOwn test t) buffer (write_of test (event t n p Push) ∷ []) h (refl, tt)
+pub kept_by : (test : LitmusTest) (t n p : ℕ) (action : Instr) (v : ℕ) (buffer : List Write) → Each (IsWriteOf test t) buffer → Each (IsWriteOf test t) (own_after test buffer (event t n p (kind_as action v)))
+kept_by test t n p (Store loc written) v buffer h = each_append (IsWriteOf test t) buffer (write_of test (event t n p Push) ∷ []) h (refl, tt)
 kept_by test t n p (Load reg loc) v buffer h = h
 kept_by test t n p Fence v buffer h = h
 kept_by test t n p (Exchange loc written reg) v buffer h = h
@@ -350,7 +339,7 @@ module _ (test : LitmusTest) (options : Options) (t : ℕ) where
     pub cut : turns_of part ≡ turn ∷ left_of (next_by slots j buffer) later
     pub own : AreOf t turn
     pub is : Steps test s turn → turn ≡ turn_by s slots j buffer
-    pub rest : RestAt (next_by slots j buffer) (own_all test buffer turn) later
+    pub rest : RestAt (next_by slots j buffer) (buffer_after test buffer turn) later
 
   pub taken : (s : State) (slots : List Slot) (j : ℕ) (buffer : List Write) (part : List Event) → IsRest test options t slots buffer j 0 part → Taken s slots j buffer part
   taken s (slot ∷ slots) j buffer part r =
@@ -358,8 +347,8 @@ module _ (test : LitmusTest) (options : Options) (t : ℕ) where
       let ds = drains_of t h.count buffer in
       let no_drain : is_drain h.here ≡ false = gives_no_drain slot.action h.here.kind h.fills.kind in
       let count : h.count ≡ due_count slot j buffer = (let k : h.count ≡ 0 + h.count = omega arith in let l : length buffer + 0 ≡ length buffer = omega arith in k ∙ h.due_now ∙ ap (due test options t slot.action j) l) in
-      let behind : own_all test buffer (ds ++ h.here ∷ []) ≡ own_after test (drop h.count buffer) h.here =
-      own_all-append test buffer ds (h.here ∷ []) ∙ ap (λ b. own_after test b h.here) (own_drains test t h.count buffer) in
+      let behind : buffer_after test buffer (ds ++ h.here ∷ []) ≡ own_after test (drop h.count buffer) h.here =
+      buffer_after-append test buffer ds (h.here ∷ []) ∙ ap (λ b. own_after test b h.here) (own_drains test t h.count buffer) in
       let P : List Write → Type 0 = λ b. IsRest test options t slots b (j + 1) 0 h.later in
       record {
         turn = ds ++ h.here ∷ [];
@@ -391,12 +380,12 @@ module _ (test : LitmusTest) (options : Options) (t : ℕ) where
   pub record Built (s : State) (slots : List Slot) (j : ℕ) (buffer : List Write) : Type 0 where
     pub steps : Steps test s (turn_by s slots j buffer)
     pub own : AreOf t (turn_by s slots j buffer)
-    pub kept : Each (IsOwn test t) (own_all test buffer (turn_by s slots j buffer))
-    pub back : (later : List Event) → RestAt (next_by slots j buffer) (own_all test buffer (turn_by s slots j buffer)) later → IsRest test options t slots buffer j 0 (turn_by s slots j buffer ++ later)
-    pub cut : (later : List Event) → RestAt (next_by slots j buffer) (own_all test buffer (turn_by s slots j buffer)) later
+    pub kept : Each (IsWriteOf test t) (buffer_after test buffer (turn_by s slots j buffer))
+    pub back : (later : List Event) → RestAt (next_by slots j buffer) (buffer_after test buffer (turn_by s slots j buffer)) later → IsRest test options t slots buffer j 0 (turn_by s slots j buffer ++ later)
+    pub cut : (later : List Event) → RestAt (next_by slots j buffer) (buffer_after test buffer (turn_by s slots j buffer)) later
         → turns_of (turn_by s slots j buffer ++ later) ≡ turn_by s slots j buffer ∷ left_of (next_by slots j buffer) later
 
-  pub built : (s : State) (slots : List Slot) (j : ℕ) (buffer : List Write) → s.buffer t ≡ buffer → Each (IsOwn test t) buffer → 1 ≤ options.buffer → Built s slots j buffer
+  pub built : (s : State) (slots : List Slot) (j : ℕ) (buffer : List Write) → s.buffer t ≡ buffer → Each (IsWriteOf test t) buffer → 1 ≤ options.buffer → Built s slots j buffer
   built s (slot ∷ slots) j buffer h own one =
       let asks = asks_drain options.seed t options.rate j in
       let c = due_count slot j buffer in
@@ -404,17 +393,17 @@ module _ (test : LitmusTest) (options : Options) (t : ℕ) where
       let mid = after_all test s ds in
       let e = event_now test mid t slot in
       let few : c ≤ length buffer = due_few slot.action options.buffer asks (length buffer) one in
-      let there : mid.buffer t ≡ drop c buffer = buffers_own test s t ds (are_drains t c buffer) ∙ ap (λ b. own_all test b ds) h ∙ own_drains test t c buffer in
+      let there : mid.buffer t ≡ drop c buffer = buffers_own test s t ds (are_drains t c buffer) ∙ ap (λ b. buffer_after test b ds) h ∙ own_drains test t c buffer in
       let needs : Needs test mid e = can_come test mid t slot.iteration slot.place slot.action options.buffer asks buffer there in
       let agrees : Agrees test (drop c buffer) e = subst (λ b. Agrees test b e) there (agrees_from test mid e needs) in
       let fills : Fills t slot e = record { thread = refl; iteration = refl; place = refl; kind = gives_kind slot.action (value_now slot.action mid t (event_location test (event t slot.iteration slot.place Fenced))) } in
       let no_drain : is_drain e ≡ false = gives_no_drain slot.action e.kind fills.kind in
-      let behind : own_all test buffer (ds ++ e ∷ []) ≡ own_after test (drop c buffer) e = own_all-append test buffer ds (e ∷ []) ∙ ap (λ b. own_after test b e) (own_drains test t c buffer) in
+      let behind : buffer_after test buffer (ds ++ e ∷ []) ≡ own_after test (drop c buffer) e = buffer_after-append test buffer ds (e ∷ []) ∙ ap (λ b. own_after test b e) (own_drains test t c buffer) in
       let now : 0 + c ≡ due test options t slot.action j (length buffer + 0) = (let k : 0 + c ≡ c = omega arith in let l : length buffer ≡ length buffer + 0 = omega arith in k ∙ ap (due test options t slot.action j) l) in
       record {
         steps = steps_join test s ds (e ∷ []) (drains_come test s t c buffer h own) (needs, tt);
         own = each_append (λ e. e.thread ≡ t) ds (e ∷ []) (are_drains t c buffer) (refl, tt);
-        kept = subst (Each (IsOwn test t)) (sym behind) (kept_by test t slot.iteration slot.place slot.action (value_now slot.action mid t (event_location test (event t slot.iteration slot.place Fenced))) (drop c buffer) (each_dropped (IsOwn test t) c buffer own));
+        kept = subst (Each (IsWriteOf test t)) (sym behind) (kept_by test t slot.iteration slot.place slot.action (value_now slot.action mid t (event_location test (event t slot.iteration slot.place Fenced))) (drop c buffer) (each_dropped (IsWriteOf test t) c buffer own));
         back = λ later r.
             subst (λ part. IsRest test options t (slot ∷ slots) buffer j 0 part) (sym (append_assoc ds (e ∷ []) later))
             (build test options t c slot slots buffer j 0 e later few own fills agrees now (subst (λ b. IsRest test options t slots b (j + 1) 0 later) behind r));
@@ -440,13 +429,13 @@ module _ (test : LitmusTest) (options : Options) (t : ℕ) where
   weight_of None buffer = 0
   weight_of (Some d) buffer = 2 * length d.slots + length buffer + 1
 
-  pub weight_falls : (s : State) (slots : List Slot) (j : ℕ) (buffer : List Write) → weight_of (next_by slots j buffer) (own_all test buffer (turn_by s slots j buffer)) < 2 * length slots + length buffer + 1
+  pub weight_falls : (s : State) (slots : List Slot) (j : ℕ) (buffer : List Write) → weight_of (next_by slots j buffer) (buffer_after test buffer (turn_by s slots j buffer)) < 2 * length slots + length buffer + 1
   weight_falls s (slot ∷ slots) j buffer =
       let c = due_count slot j buffer in
       let ds = drains_of t c buffer in
       let mid = after_all test s ds in
       let e = event_now test mid t slot in
-      let behind : own_all test buffer (ds ++ e ∷ []) ≡ own_after test (drop c buffer) e = own_all-append test buffer ds (e ∷ []) ∙ ap (λ b. own_after test b e) (own_drains test t c buffer) in
+      let behind : buffer_after test buffer (ds ++ e ∷ []) ≡ own_after test (drop c buffer) e = buffer_after-append test buffer ds (e ∷ []) ∙ ap (λ b. own_after test b e) (own_drains test t c buffer) in
       let a = long_by test t slot.iteration slot.place slot.action (value_now slot.action mid t (event_location test (event t slot.iteration slot.place Fenced))) (drop c buffer) in
       let b = long_dropped c buffer in
       omega (arith, ap length behind)

@@ -35,8 +35,8 @@ pushed (Read v) b = b
 pushed Fenced b = b
 pushed (Exchanged v) b = b
 
--- The turns from number j on, where the own buffer has b writes after the one before: each has as many Drains as are due before its
--- action. Of the turns behind the last action nothing is asked.
+-- The turns from number j on, where the own buffer has b writes after the one before: each has as many Drains as are due
+-- before its action. Of the turns behind the last action nothing is asked.
 abbrev pub DrainsWhereDue : Options → ℕ → ℕ → ℕ → List (List Event) → Type 0
 DrainsWhereDue options t j b [] = Unit {0}
 DrainsWhereDue options t j b (turn ∷ turns) =

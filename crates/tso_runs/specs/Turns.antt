@@ -1,13 +1,15 @@
--- Turns: what a thread does at a time. On x86-TSO (Sewell, Sarkar, Owens, Zappa Nardelli and Myreen, CACM 2010) each event is a step by
--- itself; how a part is cut into turns is this project's own. A turn is defined here alone: seeds, schedules and walkers speak of these.
+-- Turns: what a thread does at a time. On x86-TSO (Sewell, Sarkar, Owens, Zappa Nardelli and Myreen, CACM 2010) each
+-- event is a step by itself; how a part is cut into turns is this project's own. A turn is defined here alone: seeds,
+-- schedules and walkers speak of these.
 use Rattle.std.specs.Prelude.{◌≡◌, ℕ, Option, List, [], ◌∷◌, ◌++◌, filter, find, if◌then◌else◌, length, map, not}
 use Rattle.seq_conv.specs.Event.{Event, is_drain}
 
--- The turns of a part behind these Drains: each event that is no Drain with the Drains directly before it, then each Drain that is
--- left by itself, and at the end an empty turn.
+-- The turns of a part behind these Drains: each event that is no Drain with the Drains directly before it, then each
+-- Drain that is left by itself, and at the end an empty turn.
 abbrev pub turns_behind : List Event → List Event → List (List Event)
 turns_behind drains [] = map (λ d. d ∷ []) drains ++ [] ∷ []
-turns_behind drains (e ∷ es) = if is_drain e then turns_behind (drains ++ e ∷ []) es else ((drains ++ e ∷ []) ∷ turns_behind [] es)
+turns_behind drains (e ∷ es) =
+    if is_drain e then turns_behind (drains ++ e ∷ []) es else ((drains ++ e ∷ []) ∷ turns_behind [] es)
 
 abbrev pub turns_of : List Event → List (List Event)
 turns_of part = turns_behind [] part
