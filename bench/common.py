@@ -28,14 +28,15 @@ def example(name):
 
 
 class Ran:
-    """One run: its status, its output and its seconds."""
+    """One run: its status, its output and its seconds. `more` is put into its environment."""
 
-    def __init__(self, words, text, cores=None, limit=600, program=PERPLE):
+    def __init__(self, words, text, cores=None, limit=600, program=PERPLE, more=None):
         command = [program] + [str(word) for word in words]
         if cores is not None:
             command = ["taskset", "-c", cores] + command
         before = time.perf_counter()
-        child = subprocess.Popen(command, stdin=subprocess.PIPE, stdout=subprocess.PIPE, stderr=subprocess.PIPE)
+        child = subprocess.Popen(command, stdin=subprocess.PIPE, stdout=subprocess.PIPE, stderr=subprocess.PIPE,
+                                 env={**os.environ, **(more or {})})
         try:
             self.out, self.err = child.communicate(text, timeout=limit)
         except subprocess.TimeoutExpired:

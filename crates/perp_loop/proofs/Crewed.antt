@@ -14,7 +14,7 @@ use Rattle.tso_words.specs.declared.step.Step.{Step}
 use Rattle.tso_words.specs.History.{History, ArePartsOfOne, FindsAll, history_part, list_at, memory_after_step, zeros}
 use Rattle.tso_words.proofs.Keeping.{list_at-eight}
 use Rattle.tso_runs.specs.declared.options.Options.{Options}
-use Rattle.perp_loop.specs.Crews.{Placed, Job, IsOfJob, Claims, Each, AreFinishedAs, AreLists, AreLogs, IsLogOf, AreLogsOf, AreWholeFor}
+use Rattle.perp_loop.specs.Crews.{Placed, Job, IsOfJob, Claims, Each, AreFinishedAs, AreLists, AreLogs, IsLogOf, HaveValuesOf, AreWholeFor}
 use Rattle.tso_runs.specs.Fits.{EndsWith, Fits, IsLawful}
 use Rattle.tso_runs.specs.Merging.{IsOfLists}
 use Rattle.tso_runs.specs.SharedSteps.{shared_steps}
@@ -103,7 +103,7 @@ module _ (test : LitmusTest) (options : Options) (places : List Placed) (lists :
     counted = zip_length (λ (p : Placed) log. IsLogOf p.walker log) places logs of_walkers ∙ count
 
     -- and each run that fits has their logs
-    pub logs_of_walkers : (run : List Event) → Fits test options lists run → AreLogsOf test run logs
+    pub logs_of_walkers : (run : List Event) → Fits test options lists run → HaveValuesOf test run logs
     logs_of_walkers run fits = record { count = counted; values = λ t d lt. let n = counted in log_is t d run (omega arith) fits }
 
     columns_are : (t : ℕ) (d : Values) → t < length logs → (get_or logs t d).columns ≡ columns_of test t

@@ -19,6 +19,7 @@ use Rattle.perp_loop.specs.Actions.{write_from, AreInRange}
 use Rattle.tso_runs.specs.Fits.{IsWithinLimits}
 use Rattle.perp_loop.specs.Sound.{IsWriteOf, IsPlace, IsSound}
 use Rattle.perp_loop.specs.Walking.{StandsFor}
+use Rattle.tso_runs.proofs.Cuts.{cut_at_front}
 use Rattle.perp_loop.proofs.Taken.{reads, walking, can_end}
 
 count-slots_of_body : (n p : ℕ) (body : List Instr) → count_by reads (slots_of_body n p body) ≡ count_by is_reading body
@@ -71,6 +72,7 @@ stands_new test table options t m columns spare buffer log low none empty room =
       buffer = refl;
       log = refl;
       leads = λ rest f. record { own = f.own; performs = f.performs; keeps = f.keeps; drained = f.drained };
+      cuts = λ rest f. cut_at_front rest;
       ends = can_end test table options t 0 empty_buffer empty_log low (All-nil (λ (e : Entry). IsWriteOf test t (write_from e)));
     } in
     subst (λ m. StandsFor (walking test table options t m buffer log) []) (sym none)

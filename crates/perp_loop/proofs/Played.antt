@@ -1,8 +1,7 @@
 -- A walker's step is the next turn of its thread in the state.
-use Rattle.std.proofs.Common.{◌≡◌, ◌∙◌, refl, sym, ap, subst, ℕ, zero, suc, ◌+◌, ◌==◌, true, false, not, if◌then◌else◌, Some, All, List, [], ◌∷◌, ◌++◌, map, filter, drop, slice_get, arith, append_assoc, append-nil}
-use Rattle.std.proofs.lemmas.Bool.{cond-true, cond-false}
+use Rattle.std.proofs.Common.{◌≡◌, ◌∙◌, refl, sym, ap, subst, ℕ, zero, suc, ◌+◌, ◌==◌, false, not, if◌then◌else◌, Some, List, [], ◌∷◌, ◌++◌, length, map, filter, drop, slice_get, arith, append_assoc, append-nil}
 use Rattle.std.proofs.lemmas.List.{append_cancel_left}
-use Rattle.std.proofs.lemmas.List.Elements.{All-head, All-tail, filter-append}
+use Rattle.std.proofs.lemmas.List.Elements.{filter-append}
 use Rattle.std.proofs.lemmas.List.Sums.{sum_by-append, sum_by-cons}
 use Rattle.x86_subset.specs.Test.{LitmusTest}
 use Rattle.seq_conv.specs.Event.{Event, is_drain}
@@ -14,14 +13,15 @@ use Rattle.tso_words.specs.declared.step.Step.{Step}
 use Rattle.tso_words.specs.declared.step.TracedStep.{TracedStep}
 use Rattle.tso_runs.specs.declared.options.Options.{Options}
 use Rattle.tso_runs.specs.SharedSteps.{shared_history, shared_steps, steps_of}
-use Rattle.tso_runs.specs.Turns.{turns_of, turns_behind}
-use Rattle.perp_loop.specs.Walking.{IsTurn, actions_in}
+use Rattle.tso_runs.specs.Turns.{IsTurnBefore, turns_of}
+use Rattle.tso_runs.proofs.Cuts.{AreDrains, drain_turn, drains_alone, turns_front}
+use Rattle.perp_loop.specs.Walking.{actions_in}
 use Rattle.tso_runs.proofs.Events.{buffer_own, history_part-tagged_own, memory_traced, needs_from, tagged, traced}
 use Rattle.tso_runs.proofs.Memories.{FindsAll}
 use Rattle.tso_runs.proofs.Rest.{IsRest}
 use Rattle.tso_runs.proofs.Runs.{FindsAll-back}
 use Rattle.tso_runs.specs.Own.{drain_event}
-use Rattle.tso_runs.proofs.Turns.{AreOf, end_split, next_by, nothing_left, taken, turn_by}
+use Rattle.tso_runs.proofs.Turns.{AreOf, all_drain, drains_of, end_split, gives_no_drain, next_by, nothing_left, split, taken, turn_by}
 
 -- Histories.
 
@@ -67,21 +67,11 @@ steps_from test s t (e ∷ es) rest own keeps finds = (
 
 -- Turns.
 
-abbrev AreDrains : List Event → Type 0
-AreDrains ds = All (λ d. is_drain d ≡ true) ds
-
-cut_front : (held ds : List Event) (e : Event) (rest : List Event) → AreDrains ds → is_drain e ≡ false → turns_behind held (ds ++ e ∷ rest) ≡ (held ++ (ds ++ e ∷ [])) ∷ turns_behind [] rest
-cut_front held [] e rest drains not_one = cond-false (is_drain e) (turns_behind (held ++ e ∷ []) rest) ((held ++ e ∷ []) ∷ turns_behind [] rest) not_one
-cut_front held (d ∷ ds) e rest drains not_one =
-    cond-true (is_drain d) (turns_behind (held ++ d ∷ []) (ds ++ e ∷ rest)) ((held ++ d ∷ []) ∷ turns_behind [] (ds ++ e ∷ rest)) (All-head (λ (d : Event). is_drain d ≡ true) d ds drains)
-    ∙ cut_front (held ++ d ∷ []) ds e rest (All-tail (λ (d : Event). is_drain d ≡ true) d ds drains) not_one
-    ∙ ap (λ l. l ∷ turns_behind [] rest) (append_assoc held (d ∷ []) (ds ++ e ∷ []))
-
 no_actions : (ds : List Event) → AreDrains ds → actions_in ds ≡ 0
 no_actions [] drains = refl
 no_actions (d ∷ ds) drains =
     sum_by-cons (λ (e : Event). if not (is_drain e) then 1 else 0) d ds
-    ∙ omega (arith, no_actions ds (All-tail (λ (d : Event). is_drain d ≡ true) d ds drains), ap {B = ℕ} (λ b. if not b then 1 else 0) (All-head (λ (d : Event). is_drain d ≡ true) d ds drains))
+    ∙ omega (arith, no_actions ds drains.1, ap {B = ℕ} (λ b. if not b then 1 else 0) drains.0)
 
 one_action : (e : Event) → is_drain e ≡ false → actions_in (e ∷ []) ≡ 1
 one_action e h = ap (λ b. 0 + (if not b then 1 else 0)) h
@@ -92,44 +82,53 @@ drop_next zero (x ∷ xs) y ys h = cc
 drop_next (suc m) [] y ys h = cc
 drop_next (suc m) (x ∷ xs) y ys h = drop_next m xs y ys h
 
+-- a part begins with one turn
+same_first : (turn other rest : List Event) (others : List (List Event)) → IsTurnBefore turn rest → turns_of (turn ++ rest) ≡ other ∷ others → turn ≡ other
+same_first turn other rest others before cut = let heads : Some turn ≡ Some other = ap (λ l. slice_get l 0) (sym before ∙ cut) in cc
+
+-- no part begins with a turn where it is empty
+some_turn : (turn rest : List Event) → IsTurnBefore turn rest → turn ++ rest ≡ [] → ⊥
+some_turn [] rest before none = let more = ap length before in omega arith
+some_turn (e ∷ es) rest before none = cc
+
 module _ (test : LitmusTest) (options : Options) (t : ℕ) where
   -- the turn that a walker took is that of the state
-  pub same_turn : (s : State) (slots : List Slot) (j : ℕ) (buffer : List Write) (turn rest : List Event) → IsTurn slots turn → IsRest test options t slots buffer j 0 (turn ++ rest) → Steps test s turn → turn ≡ turn_by test options t s slots j buffer
-  same_turn s (slot ∷ slots) j buffer turn rest is r steps =
-      let ds = is.0 in
-      let e = is.1 in
-      let h = taken test options t s (slot ∷ slots) j buffer (turn ++ rest) r in
-      let cut : turns_of (turn ++ rest) ≡ turn ∷ turns_behind [] rest =
-      ap (λ l. turns_of (l ++ rest)) is.2 ∙ ap turns_of (append_assoc ds (e ∷ []) rest) ∙ cut_front [] ds e rest is.3 is.4 ∙ ap (λ l. l ∷ turns_behind [] rest) (sym is.2)
-      in
-      let heads : Some turn ≡ Some h.turn = ap (λ l. slice_get l 0) (sym cut ∙ h.cut) in
-      let same : turn ≡ h.turn = cc in
+  pub same_turn : (s : State) (slots : List Slot) (j : ℕ) (buffer : List Write) (turn rest : List Event) → IsTurnBefore turn rest → IsRest test options t slots buffer j 0 (turn ++ rest) → Steps test s turn → turn ≡ turn_by test options t s slots j buffer
+  same_turn s slots j buffer turn rest before r steps =
+      let h = taken test options t s slots j buffer (turn ++ rest) r in
+      let same = same_first turn h.turn rest _ before h.cut in
       same ∙ h.is (subst (Steps test s) same steps)
-  same_turn s [] j (w ∷ ws) turn rest is r steps =
+
+  -- where a slot is left, the turn has one action
+  acts : (slot : Slot) (slots : List Slot) (j : ℕ) (buffer : List Write) (turn rest : List Event) → IsTurnBefore turn rest → IsRest test options t (slot ∷ slots) buffer j 0 (turn ++ rest) → actions_in turn ≡ 1
+  acts slot slots j buffer turn rest before r =
+      let h = split test options t slot slots buffer j 0 (turn ++ rest) r in
+      let ds = drains_of t h.count buffer in
+      let drains = all_drain t h.count buffer in
+      let action = gives_no_drain slot.action h.here.kind h.fills.kind in
+      let is = same_first turn (ds ++ h.here ∷ []) rest _ before (ap turns_of h.whole ∙ turns_front [] ds h.here h.later drains action) in
+      ap actions_in is ∙ sum_by-append (λ (e : Event). if not (is_drain e) then 1 else 0) ds (h.here ∷ []) ∙ omega (arith, no_actions ds drains, one_action h.here action)
+
+  -- and none behind the last one
+  drains_alone_there : (j : ℕ) (w : Write) (ws : List Write) (turn rest : List Event) → IsTurnBefore turn rest → IsRest test options t [] (w ∷ ws) j 0 (turn ++ rest) → actions_in turn ≡ 0
+  drains_alone_there j w ws turn rest before r =
       let h = end_split test options t w ws j (turn ++ rest) r in
-      let whole : is.0 ∷ rest ≡ drain_event t w ∷ h.later = ap (λ l. l ++ rest) (sym is.1) ∙ h.whole in
-      let same : is.0 ≡ drain_event t w = cc in
-      is.1 ∙ ap (λ d. d ∷ []) same
-  same_turn s [] j [] turn rest is r steps =
-      let none : is.0 ∷ rest ≡ [] = ap (λ l. l ++ rest) (sym is.1) ∙ nothing_left test options t j (turn ++ rest) r in
-      absurd cc
+      let d = drain_event t w in
+      let is = same_first turn (d ∷ []) rest _ before (ap turns_of h.whole ∙ drain_turn d h.later refl (drains_alone t h.later h.rest.fills)) in
+      ap actions_in is
 
   -- what is to do behind it is what the walker has left
-  pub next_left : (all slots : List Slot) (j made : ℕ) (buffer : List Write) (turn rest : List Event) → drop j all ≡ slots → made ≡ j + actions_in turn → IsTurn slots turn → IsRest test options t slots buffer j 0 (turn ++ rest)
+  pub next_left : (all slots : List Slot) (j made : ℕ) (buffer : List Write) (turn rest : List Event) → drop j all ≡ slots → made ≡ j + actions_in turn → IsTurnBefore turn rest → IsRest test options t slots buffer j 0 (turn ++ rest)
       → next_by test options t slots j buffer ≡ Some (record { slots = drop made all; made = made })
-  next_left all (slot ∷ slots) j made buffer turn rest left more is r =
-      let one : actions_in turn ≡ 1 =
-      ap actions_in is.2 ∙ sum_by-append (λ (e : Event). if not (is_drain e) then 1 else 0) is.0 (is.1 ∷ []) ∙ omega (arith, no_actions is.0 is.3, one_action is.1 is.4)
-      in
+  next_left all (slot ∷ slots) j made buffer turn rest left more before r =
+      let one = acts slot slots j buffer turn rest before r in
       let made_is : suc j ≡ made = omega arith in
       let plus : j + 1 ≡ suc j = omega arith in
       let slots_are : slots ≡ drop made all = sym (drop_next j all slot slots left) ∙ ap (λ m. drop m all) made_is in
       λ i. Some (record { slots = slots_are i; made = (plus ∙ made_is) i })
-  next_left all [] j made (w ∷ ws) turn rest left more is r =
-      let none : actions_in turn ≡ 0 = ap actions_in is.1 ∙ ap (λ b. 0 + (if not b then 1 else 0)) is.2 in
+  next_left all [] j made (w ∷ ws) turn rest left more before r =
+      let none = drains_alone_there j w ws turn rest before r in
       let made_is : j ≡ made = omega arith in
       let slots_are : [] ≡ drop made all = sym left ∙ ap (λ m. drop m all) made_is in
       λ i. Some (record { slots = slots_are i; made = made_is i })
-  next_left all [] j made [] turn rest left more is r =
-      let none : is.0 ∷ rest ≡ [] = ap (λ l. l ++ rest) (sym is.1) ∙ nothing_left test options t j (turn ++ rest) r in
-      absurd cc
+  next_left all [] j made [] turn rest left more before r = absurd (some_turn turn rest before (nothing_left test options t j (turn ++ rest) r))

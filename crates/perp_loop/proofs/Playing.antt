@@ -121,8 +121,8 @@ module _ (job : Job) (schedule : Schedule) where
         subst (λ (m : ℕ → ℕ). FindsAll m (shared_history test state k.turn)) before (FindsAll-back zeros (shared_history test initial p.run) (shared_history test state k.turn) found)
         in
         let come : Steps test state k.turn = steps_from test state t k.turn rest own_turn r.keeps finds in
-        let is : k.turn ≡ turn_of test job.options schedule state t d = same_turn test job.options t state (slots_left w) w.made (state.buffer t) k.turn rest k.is_turn r come in
-        let left = next_left test job.options t (slots_of_loop (body_of w.test w.thread) w.options.iterations) (slots_left w) w.made new.walker.made (state.buffer t) k.turn rest refl k.takes.made k.is_turn r in
+        let is : k.turn ≡ turn_of test job.options schedule state t d = same_turn test job.options t state (slots_left w) w.made (state.buffer t) k.turn rest (k.is_turn rest k.can_end.1) r come in
+        let left = next_left test job.options t (slots_of_loop (body_of w.test w.thread) w.options.iterations) (slots_left w) w.made new.walker.made (state.buffer t) k.turn rest refl k.takes.made (k.is_turn rest k.can_end.1) r in
         let slots_are : drop new.walker.made (slots_of_loop (body_of w.test w.thread) w.options.iterations) ≡ slots_left new.walker =
         sym (ap slots_left k.takes.same)
         in

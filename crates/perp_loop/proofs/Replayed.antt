@@ -16,7 +16,7 @@ use Rattle.load_log.specs.Values.{Values}
 use Rattle.tso_words.specs.Traces.{Trace}
 use Rattle.tso_runs.specs.declared.options.Options.{Options}
 use Rattle.tso_runs.specs.declared.schedule.Schedule.{Schedule}
-use Rattle.perp_loop.specs.Crews.{AreLogs, AreLogsOf, AreWholeFor, IsLogOf, IsSameWalker, Job, Placed}
+use Rattle.perp_loop.specs.Crews.{AreLogs, HaveValuesOf, AreWholeFor, IsLogOf, IsSameWalker, Job, Placed}
 use Rattle.perp_loop.specs.Replaying.{IsAtTurn, sum_below}
 use Rattle.tso_runs.specs.Schedule.{IsScheduled, named}
 use Rattle.tso_runs.specs.Turns.{joined}
@@ -279,7 +279,7 @@ module _ (job : Job) (schedule : Schedule) where
         let is = ended.tests t (someone job) lt in
         (log_at t d lt).1 ∙ ap (λ x. columns_of x (walker_at job places t).thread) is.0 ∙ ap (columns_of job.test) is.1
 
-    pub ended_logs : AreLogsOf job.test run logs
+    pub ended_logs : HaveValuesOf job.test run logs
     ended_logs = record { count = counted; values = λ t d lt. let n = counted in value_is t d (omega arith) }
 
     pub ended_whole : AreWholeFor job.test job.options.iterations logs

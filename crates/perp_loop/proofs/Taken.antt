@@ -1,7 +1,7 @@
 -- A walker takes the next turn.
-use Rattle.std.proofs.Common.{◌≡◌, refl, sym, ap, ◌∙◌, subst, ℕ, ◌+◌, ◌*◌, ◌-◌, ◌≤◌, ◌<◌, Bool, true, false, not, if◌then◌else◌, Some, List, [], ◌∷◌, ◌++◌, length, map, take, drop, append_assoc, append-nil, arith}
+use Rattle.std.proofs.Common.{◌≡◌, refl, sym, ap, ◌∙◌, subst, ℕ, ◌+◌, ◌*◌, ◌-◌, ◌≤◌, ◌<◌, Bool, false, not, filter, if◌then◌else◌, Some, List, [], ◌∷◌, ◌++◌, length, map, take, drop, append_assoc, append-nil, arith}
 use Rattle.std.specs.Prelude.{IsTrue, All, slice_get, count_by}
-use Rattle.std.specs.List.{filter_map}
+use Rattle.std.specs.List.{AllZip, filter_map}
 use Rattle.std.proofs.lemmas.List.{length-drop, length-append, length-map, length-take-le, take-map, drop-map}
 use Rattle.std.proofs.lemmas.Bool.{false≢true}
 use Rattle.std.proofs.lemmas.List.Sums.{sum_by-cons, sum_by-append}
@@ -15,7 +15,7 @@ use Rattle.x86_subset.specs.Test.{body_of}
 use Rattle.seq_conv.specs.Event.{Event, is_drain}
 use Rattle.seq_conv.specs.Log.{value_read}
 use Rattle.seq_conv.specs.Machine.{Write}
-use Rattle.seq_conv.specs.Part.{Slot, slots_of_loop, Agrees, own_after}
+use Rattle.seq_conv.specs.Part.{Slot, slots_of_loop, Fills, Agrees, own_after}
 use Rattle.tso_words.specs.declared.step.Step.{Step}
 use Rattle.tso_words.specs.Appended.{Appends}
 use Rattle.store_buffer.specs.declared.entry.Entry.{Entry}
@@ -28,10 +28,12 @@ use Rattle.perp_loop.specs.Actions.{write_from, store_step, AreInRange, IsInRang
 use Rattle.tso_runs.specs.Drained.{kind_as, drains_due}
 use Rattle.tso_runs.specs.SharedSteps.{shared_steps, steps_of}
 use Rattle.perp_loop.specs.Sound.{drain_event, IsWriteOf, IsPlace, IsSound}
-use Rattle.perp_loop.specs.Walking.{Walking, slots_left, Finishes, buffer_after, actions_in, Takes, StandsFor, IsTurn, TakesTurn}
+use Rattle.perp_loop.specs.Walking.{Walking, slots_left, Finishes, buffer_after, actions_in, Takes, StandsFor, TakesTurn}
 use Rattle.tso_runs.specs.Fits.{IsLawful}
 use Rattle.perp_loop.proofs.Finishing.{can_finish}
 use Rattle.perp_loop.proofs.Acted.{at_site, agrees-action, steps-action, buffer-action, own-action, in_range-action, values-event, weight_of_action, empty_behind}
+use Rattle.tso_runs.specs.Turns.{IsCutBetween, IsTurnBefore}
+use Rattle.tso_runs.proofs.Cuts.{AreDrains, action_turn, cut_behind, drain_turn, drains_alone}
 use Rattle.tso_runs.proofs.Rest.{IsRest, is_rest, rest_drained}
 use Rattle.perp_loop.proofs.Slots.{left_at}
 use Rattle.perp_loop.proofs.Turn.{store_of, kind_as-not_drain, drains_of, shared_steps-drains, buffer_after-drains, buffer_after-append, values-drains, before_turn, before_last}
@@ -55,9 +57,14 @@ pub finishes_from_rest : (w : Walking) (rest : List Event) → IsRest w.test w.o
 finishes_from_rest w rest r =
     record { own = r.own; performs = r.fills; keeps = r.keeps; drained = rest_drained w.test w.options w.thread (slots_left w) w.buffer w.made rest r }
 
+-- what is cut before the events is cut behind them too, so they are whole turns
+abbrev pub AreWhole : Walking → List Event → Type 0
+AreWhole new events = (front rest : List Event) → Finishes new rest → IsCutBetween front (events ++ rest) → IsCutBetween (front ++ events) rest
+
 -- a walker that stands for the front of a part stands for a longer front when it has taken more
-pub stands_more : (old new : Walking) (front events : List Event) → Takes old events new → (rest : List Event) × Finishes new rest → StandsFor old front → StandsFor new (front ++ events)
-stands_more old new front events t ends s =
+pub stands_more : (old new : Walking) (front events : List Event) → Takes old events new → AreWhole new events → (rest : List Event) × Finishes new rest → StandsFor old front →
+    StandsFor new (front ++ events)
+stands_more old new front events t whole ends s =
     let test : old.test ≡ new.test = sym (ap (λ (w : Walking). w.test) t.same) in
     let lawful : (part : List Event) → IsLawful old.test old.options old.thread part → IsLawful new.test new.options new.thread part =
     λ part l. subst (λ (w : Walking). IsLawful w.test w.options w.thread part) (sym t.same) l in
@@ -67,6 +74,7 @@ stands_more old new front events t ends s =
           ∙ ap (λ t. buffer_after t [] (front ++ events)) test;
       log = t.log ∙ ap (λ vs. vs ++ filter_map value_read events) s.log ∙ sym (filter_map-append value_read front events);
       leads = λ rest f. lawful ((front ++ events) ++ rest) (subst (IsLawful old.test old.options old.thread) (sym (append_assoc front events rest)) (s.leads (events ++ rest) (t.leads rest f)));
+      cuts = λ rest f. whole front rest f (s.cuts (events ++ rest) (t.leads rest f));
       ends = ends;
     }
 
@@ -88,8 +96,9 @@ no_actions t (w ∷ ws) = sum_by-cons (λ e. if not (is_drain e) then 1 else 0) 
 one_action : (e : Event) → is_drain e ≡ false → actions_in (e ∷ []) ≡ 1
 one_action e h = ap (λ b. 0 + (if not b then 1 else 0)) h
 
-drains_are_drains : (t : ℕ) (ws : List Write) → All (λ d. is_drain d ≡ true) (drains_of t ws)
-drains_are_drains t ws = All-map (λ d. is_drain d ≡ true) (drain_event t) ws (λ k d h. refl)
+are_drains : (t : ℕ) (ws : List Write) → AreDrains (drains_of t ws)
+are_drains t [] = tt
+are_drains t (w ∷ ws) = (refl, are_drains t ws)
 
 module _ {P : Type 0} (steps : P → List Step) (ready : P → ℕ → Type 0) (kept : P → P → Type 0) where
   pub takes_action :
@@ -158,11 +167,14 @@ module _ {P : Type 0} (steps : P → List Step) (ready : P → ℕ → Type 0) (
       subst (λ (b : Contents). All (λ e. IsWriteOf test t (write_from e)) b.entries) (sym makes.buffered)
       (own-action test table t i p sound.numbers action (drop d es) at (All-drop (λ e. IsWriteOf test t (write_from e)) d es sound.own)) in
       let ends = can_end test table options t m' buffer' log' sound.limits.low_buffer own' in
+      let new = walking test table options t m' buffer' log' in
+      let is_turn : (rest : List Event) → Finishes new rest → IsTurnBefore turn rest =
+      λ rest f. action_turn (drains_of t (take d writes)) e rest (are_drains t (take d writes)) (kind_as-not_drain action v) in
       record {
         turn = turn;
-        is_turn = subst (λ ss. IsTurn ss turn) (sym left) (drains_of t (take d writes), e, refl, drains_are_drains t (take d writes), kind_as-not_drain action v);
+        is_turn = is_turn;
         takes = takes;
-        stands = λ front. stands_more (walking test table options t m buffer log) (walking test table options t m' buffer' log') front turn takes ends;
+        stands = λ front. stands_more (walking test table options t m buffer log) new front turn takes (λ front rest f cut. cut_behind front turn rest cut (is_turn rest f)) ends;
         can_end = ends;
         appends = subst (λ xs. Appends steps ready kept port port' xs) step makes.appends;
         owes_less = omega (arith, fewer, long, entries, weight, length-drop d es, length-map es write_from, makes.few);
@@ -199,11 +211,13 @@ module _ {P : Type 0} (steps : P → List Step) (ready : P → ℕ → Type 0) (
       let own' : All (λ e. IsWriteOf test t (write_from e)) buffer'.entries =
       subst (λ (b : Contents). All (λ e. IsWriteOf test t (write_from e)) b.entries) (sym rest) (All-tail (λ e. IsWriteOf test t (write_from e)) x xs own) in
       let ends = can_end test table options t m buffer' log low own' in
+      let is_turn : (rest : List Event) → Finishes new rest → IsTurnBefore (d ∷ []) rest =
+      λ rest f. drain_turn d rest refl (drains_alone t rest (subst (λ ss. AllZip (Fills t) ss (filter (λ e. not (is_drain e)) rest)) none f.performs)) in
       record {
         turn = d ∷ [];
-        is_turn = subst (λ ss. IsTurn ss (d ∷ [])) (sym none) (d, refl, refl);
+        is_turn = is_turn;
         takes = takes;
-        stands = λ front. stands_more old new front (d ∷ []) takes ends;
+        stands = λ front. stands_more old new front (d ∷ []) takes (λ front rest f cut. cut_behind front (d ∷ []) rest cut (is_turn rest f)) ends;
         can_end = ends;
         appends = subst (λ xs. Appends steps ready kept port port' xs) step appends;
         owes_less = omega (arith, ap length buffered);

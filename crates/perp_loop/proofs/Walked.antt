@@ -15,7 +15,9 @@ use Rattle.perp_loop.specs.declared.went.Went.TheVariants.{Action, Finished}
 use Rattle.tso_runs.specs.Fits.{IsLawful}
 use Rattle.tso_runs.specs.SharedSteps.{shared_steps, steps_of}
 use Rattle.perp_loop.specs.Walking.{Walking, Finishes, buffer_after, actions_in, Takes, StandsFor, IsFinished, IsNew, owed, TakesTurn, Stepped, Walks}
-use Rattle.perp_loop.proofs.Taken.{stands_more}
+use Rattle.tso_runs.specs.Turns.{IsCutBetween, IsTurnBefore}
+use Rattle.tso_runs.proofs.Cuts.{cut_behind}
+use Rattle.perp_loop.proofs.Taken.{AreWhole, stands_more}
 use Rattle.perp_loop.proofs.Turn.{buffer_after-append}
 use Rattle.perp_loop.proofs.Ports.{appends_none, appends_more}
 
@@ -41,6 +43,15 @@ takes_more a b c xs ys f g =
       leads = λ rest h. subst (Finishes a) (sym (append_assoc xs ys rest)) (f.leads (ys ++ rest) (g.leads rest h));
     }
 
+whole_none : (w : Walking) → AreWhole w []
+whole_none w front rest f cut = subst (λ es. IsCutBetween es rest) (sym (append-nil front)) cut
+
+whole_more : (now new : Walking) (xs turn : List Event) → AreWhole now xs → Takes now turn new → ((rest : List Event) → Finishes new rest → IsTurnBefore turn rest) → AreWhole new (xs ++ turn)
+whole_more now new xs turn whole t is_turn front rest f cut =
+    let later : IsCutBetween front (xs ++ (turn ++ rest)) = subst (IsCutBetween front) (append_assoc xs turn rest) cut in
+    let between = cut_behind (front ++ xs) turn rest (whole front (turn ++ rest) (t.leads rest f) later) (is_turn rest f) in
+    subst (λ es. IsCutBetween es rest) (append_assoc front xs turn) between
+
 -- the steps of more events, behind those that a walker has taken
 pub steps_more : (a b : Walking) (xs ys : List Event) → Takes a xs b →
     shared_steps a.test a.buffer xs ++ shared_steps b.test b.buffer ys ≡ shared_steps a.test a.buffer (xs ++ ys)
@@ -63,11 +74,12 @@ module _ {P : Type 0} (steps : P → List Step) (ready : P → ℕ → Type 0) (
   pub record Comes (old : Walking) (before : P) (now : Walking) (port : P) : Type 0 where
     pub events : List Event
     pub takes : Takes old events now
+    pub whole : AreWhole now events
     pub appends : Appends steps ready kept before port (shared_steps old.test old.buffer events)
     pub enough : ready port (owed now)
 
   pub comes_none : (w : Walking) (p : P) → kept p p → ready p (owed w) → Comes w p w p
-  comes_none w p k r = record { events = []; takes = takes_none w; appends = appends_none steps ready kept p k; enough = r }
+  comes_none w p k r = record { events = []; takes = takes_none w; whole = whole_none w; appends = appends_none steps ready kept p k; enough = r }
 
   pub comes_more : (old now new : Walking) (before port after : P) → ((p : P) (j k : ℕ) → j ≤ k → ready p k → ready p j) → ((p q r : P) → kept p q → kept q r → kept p r) →
       Comes old before now port → TakesTurn steps ready kept now port new after → Comes old before new after
@@ -76,6 +88,7 @@ module _ {P : Type 0} (steps : P → List Step) (ready : P → ℕ → Type 0) (
       record {
         events = c.events ++ t.turn;
         takes = takes_more old now new c.events t.turn c.takes t.takes;
+        whole = whole_more now new c.events t.turn c.whole t.takes t.is_turn;
         appends = subst (λ xs. Appends steps ready kept before after xs) (steps_more old now c.events t.turn c.takes) more;
         enough = t.appends.left (owed new) (fewer port (owed new + length (shared_steps now.test now.buffer t.turn)) (owed now) t.owes_less c.enough);
       }
@@ -84,7 +97,7 @@ module _ {P : Type 0} (steps : P → List Step) (ready : P → ℕ → Type 0) (
   walks old now before port c f = record {
     rest = c.events;
     same = c.takes.same;
-    stands = λ front. stands_more old now front c.events c.takes ([], finishes_finished now f);
+    stands = λ front. stands_more old now front c.events c.takes c.whole ([], finishes_finished now f);
     finishes = subst (Finishes old) (append-nil c.events) (c.takes.leads [] (finishes_finished now f));
     log = c.takes.log;
     appends = c.appends;

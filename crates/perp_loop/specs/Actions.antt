@@ -1,4 +1,5 @@
--- What an action does with a buffer, the shared words and a log.
+-- What an action does with a store buffer, the shared words and a log. The buffer and the words follow x86-TSO (Owens, Sarkar and Sewell,
+-- "A better x86 memory model: x86-TSO", 2009); which writes drain before an action is this project's own rule.
 use Rattle.std.specs.Prelude.{◌≡◌, ℕ, ◌-◌, ◌<◌, ◌≤◌, Bool, All, IfSome, is_some, List, [], ◌∷◌, ◌++◌, length, map, take, drop, if◌then◌else◌}
 use Rattle.x86_subset.specs.declared.instr.Instr.{Instr}
 use Rattle.x86_subset.specs.declared.instr.Instr.TheVariants.{Store as DoStore, Load as DoLoad, Fence, Exchange}

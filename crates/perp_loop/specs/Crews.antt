@@ -1,4 +1,4 @@
--- Places in a row, one for each thread of a test: a walker, and the lane of its number while that is lent.
+-- Places in a row, one for each thread of a test: a walker, and the lane of its number while that is lent. This project's own.
 use Rattle.std.specs.Prelude.{◌≡◌, ℕ, ◌<◌, ◌≤◌, All, List, [], length, slice_index_or, Option, None, IsSome, IfSome}
 use Rattle.std.specs.List.{AllZip}
 use Rattle.x86_subset.specs.Shape.{IsTest}
@@ -115,8 +115,8 @@ pub record AreWholeFor (test : LitmusTest) (n : ℕ) (logs : List Values) : Type
   pub columns : (t : ℕ) (d : Values) → t < length logs → (slice_index_or logs t d).columns ≡ columns_of test t
   pub whole : AreWhole n logs
 
--- the logs are those of the run
-pub record AreLogsOf (test : LitmusTest) (run : List Event) (logs : List Values) : Type 0 where
+-- there is one log for each thread of the test, with the values that the thread reads in the run
+pub record HaveValuesOf (test : LitmusTest) (run : List Event) (logs : List Values) : Type 0 where
   pub count : length logs ≡ length test.bodies
   pub values : (t : ℕ) (d : Values) → t < length logs → (slice_index_or logs t d).values ≡ log_of t run
 

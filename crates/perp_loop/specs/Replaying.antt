@@ -1,4 +1,4 @@
--- Walkers that take turns on a stored history.
+-- Walkers that take turns on a stored history: this project's own. The generator is Xoshiro256++ (Blackman and Vigna).
 use Rattle.std.specs.Prelude.{◌≡◌, ℕ, zero, suc, ◌+◌, ◌*◌, Bool, true, false, List, length, filter, slice_index_or}
 use Rattle.rand_core.specs.Steps.{stream_of, steps_u64_high}
 use Rattle.rand_xoshiro.specs.Xoshiro256.{plus_plus}

@@ -1,4 +1,4 @@
--- What is true of every walker.
+-- What is true of every walker: this project's own.
 use Rattle.std.specs.Prelude.{◌≡◌, ℕ, ◌+◌, ◌*◌, ◌<◌, ◌≤◌, All, length, drop, count_by}
 use Rattle.x86_subset.specs.Test.{LitmusTest}
 use Rattle.seq_conv.specs.Numbers.{Table, AreOf}

@@ -1,5 +1,6 @@
--- What contracts see of a walker, and what it does to a lawful part.
-use Rattle.std.specs.Prelude.{◌≡◌, ℕ, ◌+◌, ◌<◌, ◌≤◌, true, false, not, All, List, [], ◌∷◌, ◌++◌, length, drop, filter, count_by}
+-- What contracts see of a walker, and what it does to a lawful part: this project's own, over the events of x86-TSO (Sewell, Sarkar, Owens,
+-- Zappa Nardelli and Myreen, CACM 2010).
+use Rattle.std.specs.Prelude.{◌≡◌, ℕ, ◌+◌, ◌<◌, ◌≤◌, not, All, List, [], ◌++◌, length, drop, filter, count_by}
 use Rattle.std.specs.List.{AllZip, filter_map}
 use Rattle.x86_subset.specs.Test.{LitmusTest}
 use Rattle.x86_subset.specs.Test.{body_of}
@@ -17,7 +18,7 @@ use Rattle.tso_runs.specs.Fits.{IsLawful}
 use Rattle.tso_runs.specs.Drained.{DrainsWhereDue}
 pub use Rattle.tso_runs.specs.Own.{buffer_after}
 use Rattle.tso_runs.specs.SharedSteps.{shared_steps}
-use Rattle.tso_runs.specs.Turns.{turns_of}
+use Rattle.tso_runs.specs.Turns.{IsCutBetween, IsTurnBefore, turns_of}
 
 -- what a walker is made of, how many actions it has made, its buffer and its log
 pub record Walking : Type 0 where
@@ -52,18 +53,14 @@ pub record Takes (old : Walking) (events : List Event) (new : Walking) : Type 0 
   pub log : new.log ≡ old.log ++ filter_map value_read events
   pub leads : (rest : List Event) → Finishes new rest → Finishes old (events ++ rest)
 
--- the walker stands for these events, which are the front of a lawful part
+-- the walker stands for these events: they are whole turns, from the first one on, of a lawful part
 pub record StandsFor (w : Walking) (front : List Event) : Type 0 where
   pub made : w.made ≡ actions_in front
   pub buffer : w.buffer ≡ buffer_after w.test [] front
   pub log : w.log ≡ filter_map value_read front
   pub leads : (rest : List Event) → Finishes w rest → IsLawful w.test w.options w.thread (front ++ rest)
+  pub cuts : (rest : List Event) → Finishes w rest → IsCutBetween front rest
   pub ends : (rest : List Event) × Finishes w rest
-
--- a turn is an event that is no Drain with the Drains directly before it, and behind the last such event it is one Drain
-abbrev pub IsTurn : List Slot → List Event → Type 0
-IsTurn [] turn = (d : Event) × (turn ≡ d ∷ []) × (is_drain d ≡ true)
-IsTurn (slot ∷ slots) turn = (drains : List Event) × (e : Event) × (turn ≡ drains ++ e ∷ []) × All (λ d. is_drain d ≡ true) drains × (is_drain e ≡ false)
 
 -- how many steps a walker still makes at most
 abbrev pub owed : Walking → ℕ
@@ -77,7 +74,7 @@ pub record IsFinished (w : Walking) : Type 0 where
 -- the walker takes the next turn, whose shared steps the port appends
 pub record TakesTurn {P : Type 0} (steps : P → List Step) (ready : P → ℕ → Type 0) (kept : P → P → Type 0) (old : Walking) (before : P) (new : Walking) (after : P) : Type 0 where
   pub turn : List Event
-  pub is_turn : IsTurn (slots_left old) turn
+  pub is_turn : (rest : List Event) → Finishes new rest → IsTurnBefore turn rest
   pub takes : Takes old turn new
   pub stands : (front : List Event) → StandsFor old front → StandsFor new (front ++ turn)
   pub can_end : (rest : List Event) × Finishes new rest

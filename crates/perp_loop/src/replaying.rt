@@ -1,7 +1,7 @@
 //! All walkers by turns, on a history that is stored.
 ghost use Rattle.std.specs.Prelude.{◌≡◌, ◌≤◌, List, []};
 ghost use Rattle.seq_conv.specs.Event.{Event};
-ghost use Rattle.perp_loop.specs.Crews.{AreLogsOf, AreWholeFor};
+ghost use Rattle.perp_loop.specs.Crews.{HaveValuesOf, AreWholeFor};
 ghost use Rattle.tso_runs.specs.Merging.{history_of};
 ghost use Rattle.perp_loop.specs.Replaying.{owed_by};
 ghost use Rattle.tso_runs.specs.Schedule.{IsScheduled};
@@ -18,8 +18,8 @@ use tso_words::Traced;
 pub fn replay(traced: Traced, crew: Crew<'_>, schedule: Schedule) -> (Traced, Logs)
     requires empty { traced.history ≡ [] }
     requires room { owed_by crew ≤ traced.room }
-    ensures made { (run : List Event) × IsScheduled crew.entry.test crew.entry.options schedule run × (result.0.history ≡ history_of crew.entry.test run) × AreLogsOf crew.entry.test run result.1.logs }
-    ensures every { (run : List Event) → IsScheduled crew.entry.test crew.entry.options schedule run → (result.0.history ≡ history_of crew.entry.test run) × AreLogsOf crew.entry.test run result.1.logs }
+    ensures made { (run : List Event) × IsScheduled crew.entry.test crew.entry.options schedule run × (result.0.history ≡ history_of crew.entry.test run) × HaveValuesOf crew.entry.test run result.1.logs }
+    ensures every { (run : List Event) → IsScheduled crew.entry.test crew.entry.options schedule run → (result.0.history ≡ history_of crew.entry.test run) × HaveValuesOf crew.entry.test run result.1.logs }
     ensures flat { IsFlat result.0.words result.0.history }
     ensures whole { AreWholeFor crew.entry.test crew.entry.options.iterations result.1.logs }
 {

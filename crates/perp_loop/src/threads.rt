@@ -4,7 +4,7 @@ ghost use Rattle.tso_words.specs.History.{thread_count, ArePartsOfOne};
 ghost use Rattle.tso_words.specs.Views.{no_steps};
 ghost use Rattle.seq_conv.specs.Event.{Event};
 ghost use Rattle.tso_runs.specs.Fits.{EndsWith, Fits};
-ghost use Rattle.perp_loop.specs.Crews.{AreLogsOf, AreWholeFor, HasLane, AreFresh, AreLent, AreEnded, AreFinishedAs, AreLists, Lends, HasHome, SameWalkers};
+ghost use Rattle.perp_loop.specs.Crews.{HaveValuesOf, AreWholeFor, HasLane, AreFresh, AreLent, AreEnded, AreFinishedAs, AreLists, Lends, HasHome, SameWalkers};
 
 use crate::crew::{Crew, logs_of};
 use crate::gate::Gate;
@@ -97,7 +97,7 @@ pub fn run_threads<R: Threads + Sync, G: Gate>(
 ) -> (Done, Logs)
     ensures identity { result.0.identity ≡ field }
     ensures some_run { (run : List Event) × Fits crew.entry.test crew.entry.options result.0.lists run × EndsWith crew.entry.test result.0.words run }
-    ensures logs { (run : List Event) → Fits crew.entry.test crew.entry.options result.0.lists run → AreLogsOf crew.entry.test run result.1.logs }
+    ensures logs { (run : List Event) → Fits crew.entry.test crew.entry.options result.0.lists run → HaveValuesOf crew.entry.test run result.1.logs }
     ensures whole { AreWholeFor crew.entry.test crew.entry.options.iterations result.1.logs }
 {
     let (mut places, logs) = crew.parts();

@@ -11,7 +11,7 @@ use Rattle.tso_runs.specs.Schedule.{IsScheduled}
 use Rattle.tso_runs.proofs.Fitting.{scheduled_run}
 use Rattle.perp_loop.specs.Crews.{AreWholeFor}
 use Rattle.perp_loop.specs.Crews.{Job as Crew}
-use Rattle.perp_loop.specs.Crews.{AreLogsOf as HasValues}
+use Rattle.perp_loop.specs.Crews.{HaveValuesOf}
 use Rattle.perp_base.specs.declared.failure.NoMemory.{NoMemory}
 use Rattle.litmus_reader.specs.Answer.{Accepted}
 use Rattle.profile_check.specs.Profile.{CheckedTest, IsChecked, Profile, inside, outside, profile_of}
@@ -68,7 +68,7 @@ converted checked rows is e = ap conversion_of (e ∙ ap (conversion_rows_of che
 -- a crew was replayed by a schedule, and left these logs
 pub record IsReplayed (crew : Crew) (schedule : Schedule) (logs : List Values) : Type 0 where
   pub made : (run : List Event) × IsScheduled crew.test crew.options schedule run
-  pub every : (run : List Event) → IsScheduled crew.test crew.options schedule run → HasValues crew.test run logs
+  pub every : (run : List Event) → IsScheduled crew.test crew.options schedule run → HaveValuesOf crew.test run logs
   pub whole : AreWholeFor crew.test crew.options.iterations logs
 
 -- the report of the run of a schedule

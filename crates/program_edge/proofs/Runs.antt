@@ -10,11 +10,11 @@ use Rattle.tso_runs.specs.Fits.{EndsWith, Fits}
 use Rattle.tso_runs.proofs.Fitting.{fitting_run}
 use Rattle.perp_loop.specs.Crews.{AreWholeFor}
 use Rattle.perp_loop.specs.Crews.{Job as Crew}
-use Rattle.perp_loop.specs.Crews.{AreLogsOf as HasValues}
+use Rattle.perp_loop.specs.Crews.{HaveValuesOf}
 use Rattle.program_edge.specs.Field.{HasLogs, HasRunOn}
 
 -- what threads leave are the logs of a run
-pub has_logs : (test : LitmusTest) (n : ℕ) (run : List Event) (logs : List Values) → IsRunOf test n run → HasValues test run logs → AreWholeFor test n logs
+pub has_logs : (test : LitmusTest) (n : ℕ) (run : List Event) (logs : List Values) → IsRunOf test n run → HaveValuesOf test run logs → AreWholeFor test n logs
     → HasLogs test n run logs
 has_logs test n run logs is values whole = record {
   is_run = is;
@@ -28,7 +28,7 @@ has_logs test n run logs is values whole = record {
 -- what a crew leaves on its field, and the logs that it leaves
 pub record IsLeft (crew : Crew) (done : Closed) (logs : List Values) : Type 0 where
   pub some_run : (run : List Event) × Fits crew.test crew.options done.lists run × EndsWith crew.test done.words run
-  pub every : (run : List Event) → Fits crew.test crew.options done.lists run → HasValues crew.test run logs
+  pub every : (run : List Event) → Fits crew.test crew.options done.lists run → HaveValuesOf crew.test run logs
   pub whole : AreWholeFor crew.test crew.options.iterations logs
 
 -- so its test was run there

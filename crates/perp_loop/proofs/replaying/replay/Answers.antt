@@ -2,7 +2,7 @@ use Rattle.std.proofs.Common.{rules, ◌≡◌, ◌∙◌, refl, sym, ap, subst,
 use Rattle.std.specs.Prelude.{slice_index_or}
 use Rattle.std.proofs.lemmas.List.{get_or_default}
 use Rattle.seq_conv.specs.Event.{Event}
-use Rattle.perp_loop.specs.Crews.{AreLogsOf, Placed}
+use Rattle.perp_loop.specs.Crews.{HaveValuesOf, Placed}
 use Rattle.tso_runs.specs.Merging.{history_of}
 use Rattle.perp_loop.specs.Replaying.{SteppedOn, players_in}
 use Rattle.tso_runs.specs.Schedule.{named}
@@ -193,7 +193,7 @@ returns-clause-every c =
     λ run scheduled.
     let one = each_schedule_has_one_run job.test job.options c.args.schedule inv.one in
     let same : p.run ≡ run = one.2 p.run e.scheduled ∙ sym (one.2 run scheduled) in
-    subst (λ (x : List Event). (c.loop-t.traced.history ≡ history_of job.test x) × AreLogsOf job.test x c.logs_of.result.logs) same
+    subst (λ (x : List Event). (c.loop-t.traced.history ≡ history_of job.test x) × HaveValuesOf job.test x c.logs_of.result.logs) same
     (e.history, ended_logs job c.args.schedule c.loop-t.places.items c.loop-t.traced p.run e p.count c.logs_of.result.logs c.logs_of.ensures)
 
 pub returns-clause-whole : goal.returns-clause-whole
