@@ -25,6 +25,7 @@ use Rattle.run_witness.specs.Marks.{Mark, is_storing, loop_of, waiting}
 use Rattle.run_witness.specs.Stage.{slot_write}
 use Rattle.run_witness.proofs.Begun.{after_push, memory_after_event}
 use Rattle.run_witness.proofs.Fronts.{body_few}
+use Rattle.run_witness.proofs.Reading.{store_stores}
 use Rattle.run_witness.proofs.Slots.{loop_length, not_store_to, waiting_none, waiting_push}
 use Rattle.run_witness.proofs.Stands.{fresh, stores_at}
 use Rattle.verdict.specs.declared.asked.Asked.{Asked}
@@ -36,7 +37,7 @@ use Rattle.decision.specs.declared.course.Progress.{Progress}
 use Rattle.decision.specs.Course.{IsCase, IsCourse, IsHeld, IsKept, IsNext, IsNextIn, IsOfStore, IsOldest, IsWaiting, StoresNone, is_early, mark_after, mark_of, marks_of, reads_early, total, writes_early}
 use Rattle.decision.specs.Shown.{Shows}
 use Rattle.decision.specs.Stage.{Stage}
-use Rattle.decision.proofs.Asks.{loop_slot, stores_storing}
+use Rattle.decision.proofs.Asks.{loop_slot}
 use Rattle.decision.proofs.Finish.{orders_of, stage_begins, stage_shows}
 use Rattle.decision.proofs.Moves.{held_stuck, none_queue, total_less}
 use Rattle.decision.proofs.Nexts.{deed_node, some_is, next_drain, next_exchange, next_fence, next_push, next_read}
@@ -273,7 +274,7 @@ newest_more test t d place loc a l at =
 pub newest_value : (test : LitmusTest) (table : Table) (t place loc : ℕ) (a : Instr) → AreOf test table → slice_get (body_of test t) place ≡ Some a → is_store_to loc a ≡ true
     → value_at table t place 0 ≡ value_of test (site_location test (record { thread = t; place = place })) (record { thread = t; place = place }) 0
 newest_value test table t place loc a same at to =
-    value_written test table (record { thread = t; iteration = 0; place = place; kind = Push }) same (record { action = a; stands = at; storing = stores_storing loc a to })
+    value_written test table (record { thread = t; iteration = 0; place = place; kind = Push }) same (record { action = a; stands = at; storing = store_stores loc a to })
 
 pub newest_stored : (test : LitmusTest) (table : Table) (t d place loc v : ℕ) (a : Instr) (found : Option ℕ) → AreOf test table → d ≤ place → slice_get (body_of test t) place ≡ Some a → is_store_to loc a ≡ true → found ≡ Some v → v ≡ value_at table t place 0
     → found ≡ newest loc (map (slot_write test t) (waiting (loop_of test 1 t) d (place + 1)))

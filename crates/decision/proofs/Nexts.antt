@@ -1,14 +1,14 @@
 -- The events that can be next.
-use Rattle.std.proofs.Common.{◌≡◌, ℕ, ◌+◌, ◌*◌, ◌<◌, ◌≤◌, ◌==◌, true, false, None, Some, List, [], ◌∷◌, ◌++◌, length, map, slice_get, nat_le, le-leb, refl, sym, ap, ◌∙◌, arith, subst, inl, inr, ◌⊎◌, eq-eqb, unwrap_or, zero-mul, zero-add}
+use Rattle.std.proofs.Common.{◌≡◌, ℕ, ◌+◌, ◌*◌, ◌<◌, ◌≤◌, ◌==◌, true, false, None, Some, List, [], ◌∷◌, ◌++◌, length, map, slice_get, nat_le, le-leb, refl, sym, ap, ◌∙◌, arith, subst, inl, inr, ◌⊎◌, eq-eqb, zero-mul, zero-add}
 use Rattle.std.proofs.lemmas.Option.{slice_get_within}
-use Rattle.std.proofs.lemmas.Bool.{and_from, cases_lt, cases_eq, true≢false}
+use Rattle.std.proofs.lemmas.Bool.{and_from, cases_lt, cases_eq, false_from_ne_true, true≢false}
 use Rattle.std.specs.List.{AllByRecursion as Each, list_any}
 use Rattle.x86_subset.specs.Test.{LitmusTest, body_of}
 use Rattle.x86_subset.specs.declared.instr.Instr.{Instr}
 use Rattle.x86_subset.specs.declared.instr.Reg.{Reg}
 use Rattle.x86_subset.specs.declared.instr.Instr.TheVariants.{Store, Load, Fence, Exchange}
 use Rattle.seq_conv.specs.Event.{Event, Kind, Push, Drain, Read, Fenced, Exchanged, is_drain_kind}
-use Rattle.seq_conv.specs.Machine.{Needs, after, after_all, initial, newest, readable, updated, write_of}
+use Rattle.seq_conv.specs.Machine.{Needs, after, after_all, initial, readable, updated, write_of}
 use Rattle.seq_conv.specs.Part.{Gives, Slot, slots_of_loop}
 use Rattle.seq_conv.specs.Source.{is_memory_kind}
 use Rattle.seq_conv.specs.Sequence.{action_at, site_location}
@@ -17,17 +17,18 @@ use Rattle.profile_check.specs.declared.kind.AtomKind.{AtomKind}
 use Rattle.verdict.specs.declared.node.Node.{Node}
 use Rattle.verdict.specs.Edges.{asked_of, is_the, same_node}
 use Rattle.verdict.proofs.Walks.{same_node_self}
-use Rattle.decision.proofs.Asks.{FollowerOf, LastOf, Ordering, loop_slot, stores_storing}
-use Rattle.decision.proofs.Blockers.{any_false, blocks_read, blocks_write, right_value, unforwarded}
+use Rattle.decision.proofs.Asks.{Between, FollowerOf, LastOf, Newest, Ordering, loop_slot}
+use Rattle.decision.proofs.Blockers.{any_false, blocks_read, blocks_write, right_value}
 use Rattle.decision.proofs.Stage.{KeepsFollowers, drains, performs, stage_step}
-use Rattle.decision.proofs.Stands.{stands_deed, stands_drain, stands_exchange, stands_push}
+use Rattle.run_witness.proofs.Stands.{all_drained, done_more, stands_deed, stands_drain, stands_exchange, stands_push}
 use Rattle.decision.specs.Course.{IsNext, IsOldest, left, mark_after, queue}
-use Rattle.decision.specs.Stage.{IsWanted, Stage, Stands, WaitsStores, wanted}
+use Rattle.decision.specs.Stage.{IsWanted, Stage, WaitsStores, wanted}
+use Rattle.run_witness.proofs.Forbids.{writer_stores}
+use Rattle.run_witness.proofs.Reading.{store_stores, view_other, view_own}
 use Rattle.run_witness.proofs.Slots.{Oldest, none_waits, oldest, slot_at}
-use Rattle.run_witness.proofs.Stands.{all_drained, done_more}
-use Rattle.run_witness.specs.Marks.{Mark, is_storing, loop_of, waiting}
-use Rattle.run_witness.specs.Order.{is_store}
-use Rattle.run_witness.specs.Stage.{slot_write}
+use Rattle.run_witness.specs.Marks.{Mark, is_storing, loop_of, stored}
+use Rattle.run_witness.specs.Order.{is_store, stores_to}
+use Rattle.run_witness.specs.Stage.{Stands, slot_write}
 
 -- Deeds.
 
@@ -89,32 +90,41 @@ reads_of test kind o t d h k =
     let b : d ≡ o.place = k ∙ ap (λ (n : Node). n.place) o.reader in
     (a, (λ i. site_location test (record { thread = a i; place = b i })) ∙ o.reads)
 
-wanted_word : (test : LitmusTest) (kinds : List AtomKind) (marks : ℕ → Mark) (events : List Event) (t : ℕ) (kind : AtomKind) → Stage test kinds marks events → Among kind kinds → (o : Ordering test kind)
+-- what is read from memory, between two stores of another thread
+between_read : (test : LitmusTest) (kinds : List AtomKind) (marks : ℕ → Mark) (events : List Event) (t : ℕ) (kind : AtomKind) → Stage test kinds marks events → Among kind kinds → (o : Ordering test kind) → Between test kind o.location o.writer o.thread
     → list_any (blocks_read test marks (deed_node t (marks t).done)) kinds ≡ false → t ≡ (asked_of test kind).reader.thread → (marks t).done ≡ (asked_of test kind).reader.place
-    → (after_all test initial events).memory (site_location test (record { thread = t; place = (marks t).done })) ≡ wanted test kind
-wanted_word test kinds marks events t kind st am o free h k =
-    ap (after_all test initial events).memory (reads_of test kind o t (marks t).done h k).1
-    ∙ right_value test kinds marks events (deed_node t (marks t).done) kind st am o (reader_is test kind t (marks t).done h k) (omega arith) free
+    → readable (after_all test initial events) t o.location ≡ wanted test kind
+between_read test kinds marks events t kind st am o b free h k =
+    let x = o.location in
+    let mine : t ≡ o.thread = (reads_of test kind o t (marks t).done h k).0 in
+    let other : stores_to test t x ≡ false = false_from_ne_true (stores_to test t x) (λ e. b.apart (sym mine ∙ writer_stores test t x o.writer o.stores e)) in
+    view_other test 1 (after_all test initial events) marks t x st.stands other
+    ∙ right_value test kinds marks events (deed_node t (marks t).done) kind st am o b (reader_is test kind t (marks t).done h k) (omega arith) free
+
+-- what is read of the own stores
+newest_read : (test : LitmusTest) (kinds : List AtomKind) (marks : ℕ → Mark) (events : List Event) (t : ℕ) (kind : AtomKind) → Stage test kinds marks events → (o : Ordering test kind) → Newest test kind o.location o.writer o.thread o.place
+    → t ≡ (asked_of test kind).reader.thread → (marks t).done ≡ (asked_of test kind).reader.place → readable (after_all test initial events) t o.location ≡ wanted test kind
+newest_read test kinds marks events t kind st o b h k =
+    let mine : t ≡ o.writer = (reads_of test kind o t (marks t).done h k).0 ∙ b.own in
+    let place : (marks t).done ≡ o.place = k ∙ ap (λ (n : Node). n.place) o.reader in
+    view_own test 1 (after_all test initial events) marks t o.location o.writer o.stores st.stands mine
+    ∙ (λ i. stored o.location (loop_of test 1 (mine i)) (place i)) ∙ b.before
 
 wanted_read : (test : LitmusTest) (kinds : List AtomKind) (marks : ℕ → Mark) (events : List Event) (t : ℕ) (kind : AtomKind) → Stage test kinds marks events → Among kind kinds → (o : Ordering test kind)
     → list_any (blocks_read test marks (deed_node t (marks t).done)) kinds ≡ false → t ≡ (asked_of test kind).reader.thread → (marks t).done ≡ (asked_of test kind).reader.place
     → readable (after_all test initial events) t (site_location test (record { thread = t; place = (marks t).done })) ≡ wanted test kind
-wanted_read test kinds marks events t kind st am o free h k =
-    let s = after_all test initial events in
-    let x = site_location test (record { thread = t; place = (marks t).done }) in
-    let r = reads_of test kind o t (marks t).done h k in
-    let m = marks t in
-    let none : newest x (s.buffer t) ≡ None =
-    ap (newest x) (st.stands.own t).buffer ∙ ap (λ z. newest z (map (slot_write test t) (waiting (loop_of test 1 t) m.drained m.done))) r.1
-    ∙ unforwarded test t o.location o.writer m.drained m.done o.stores (λ e. o.apart (sym r.0 ∙ e)) in
-    ap (λ z. unwrap_or z (s.memory x)) none ∙ wanted_word test kinds marks events t kind st am o free h k
+wanted_read test kinds marks events t kind st am o free h k = ap (readable (after_all test initial events) t) (reads_of test kind o t (marks t).done h k).1 ∙ go o.among
+  where
+    go : Between test kind o.location o.writer o.thread ⊎ Newest test kind o.location o.writer o.thread o.place → readable (after_all test initial events) t o.location ≡ wanted test kind
+    go (inl b) = between_read test kinds marks events t kind st am o b free h k
+    go (inr b) = newest_read test kinds marks events t kind st o b h k
 
 -- Writes.
 
 keeps_write : (test : LitmusTest) (kinds : List AtomKind) (marks : ℕ → Mark) (events : List Event) (t place : ℕ) (r : Mark) → Stage test kinds marks events → Each (Ordering test) kinds
     → ((i : ℕ) (s : Slot) → (marks t).drained ≤ i → i < place → slice_get (loop_of test 1 t) i ≡ Some s → is_storing s.action ≡ false)
     → list_any (blocks_write test marks (deed_node t place)) kinds ≡ false → r.drained ≡ place + 1 → KeepsFollowers test kinds marks t r
-keeps_write test kinds marks events t place r st orders none free e kind am q f g l = go (each_among (Ordering test) kind kinds (among_from_contains kinds kind am) orders).follower
+keeps_write test kinds marks events t place r st orders none free e kind am q f g l = here (each_among (Ordering test) kind kinds (among_from_contains kinds kind am) orders).among
   where
     old : (marks t).drained ≤ q.place
     old = let P : ℕ → Type 0 = λ u. (marks u).drained ≤ q.place in subst P g (st.follows kind am q f l)
@@ -137,12 +147,19 @@ keeps_write test kinds marks events t place r st orders none free e kind am q f 
         let P : Node → Type 0 = λ n. slice_get (loop_of test 1 n.thread) n.place ≡ Some (record { iteration = 0; place = z.place; action = z.action }) in
         let Q : ℕ → Type 0 = λ u. slice_get (loop_of test 1 u) q.place ≡ Some (record { iteration = 0; place = z.place; action = z.action }) in
         let slot = subst Q g (subst P is (loop_slot test o.writer z.place z.action z.stands)) in
-        let storing = stores_storing o.location z.action z.stores in
+        let storing = store_stores o.location z.action z.stores in
         by slot storing (cases_lt q.place place)
       where
         by : slice_get (loop_of test 1 t) q.place ≡ Some (record { iteration = 0; place = z.place; action = z.action }) → is_storing z.action ≡ true → (q.place < place) ⊎ (place ≤ q.place) → r.drained ≤ q.place
         by slot storing (inl m) = absurd (true≢false (sym storing ∙ none q.place (record { iteration = 0; place = z.place; action = z.action }) old m slot))
         by slot storing (inr m) = apart (cases_eq place q.place) m
+
+    here : Between test kind (each_among (Ordering test) kind kinds (among_from_contains kinds kind am) orders).location (each_among (Ordering test) kind kinds (among_from_contains kinds kind am) orders).writer
+        (each_among (Ordering test) kind kinds (among_from_contains kinds kind am) orders).thread
+        ⊎ Newest test kind (each_among (Ordering test) kind kinds (among_from_contains kinds kind am) orders).location (each_among (Ordering test) kind kinds (among_from_contains kinds kind am) orders).writer
+        (each_among (Ordering test) kind kinds (among_from_contains kinds kind am) orders).thread (each_among (Ordering test) kind kinds (among_from_contains kinds kind am) orders).place → r.drained ≤ q.place
+    here (inl b) = go b.follower
+    here (inr b) = let no : None ≡ Some q = sym b.follower ∙ f in cc
 
 pub slot_place : (body : List Instr) (d : ℕ) (s : Slot) → slice_get (slots_of_loop body 1) d ≡ Some s → s.place ≡ d
 slot_place body d s h =
@@ -194,6 +211,8 @@ next_exchange test kinds marks events t loc written reg v st orders below at q e
     let r = all_drained marks t in
     let of = loop_slot test t (marks t).done a at in
     let empty : s.buffer t ≡ [] = (st.stands.own t).buffer ∙ ap (map (slot_write test t)) q in
+    let x = site_location test (record { thread = t; place = (marks t).done }) in
+    let found : s.memory x ≡ readable s t x = rw empty refl in
     let within : (marks t).done < length (loop_of test 1 t) = slice_get_within (loop_of test 1 t) (marks t).done (record { iteration = 0; place = (marks t).done; action = a }) of in
     let order : (marks t).drained ≤ (marks t).done = (st.stands.own t).order in
     let less : left test t r < left test t (marks t) = omega arith in
@@ -205,7 +224,7 @@ next_exchange test kinds marks events t loc written reg v st orders below at q e
       stage = stage_step test kinds marks events ev r st below (empty, value) (stands_exchange test 1 s marks ev a st.stands of refl empty)
           (performs refl refl a of (record { thread = refl; iteration = refl; place = refl; kind = tt })) (λ i z l m. absurd (omega arith))
           (keeps_write test kinds marks events t (marks t).done r st orders (none_waits (loop_of test 1 t) (marks t).drained (marks t).done q) f refl)
-          (λ kind am y g h z k. sym (some_is v z k) ∙ value ∙ wanted_word test kinds marks events t kind st (among_from_contains kinds kind am) (each_among (Ordering test) kind kinds (among_from_contains kinds kind am) orders) e g h);
+          (λ kind am y g h z k. sym (some_is v z k) ∙ value ∙ found ∙ wanted_read test kinds marks events t kind st (among_from_contains kinds kind am) (each_among (Ordering test) kind kinds (among_from_contains kinds kind am) orders) e g h);
       less = less;
     }
 

@@ -4,30 +4,22 @@ use Rattle.std.specs.List.{AllZip, AllByRecursion as Each}
 use Rattle.x86_subset.specs.Test.{LitmusTest}
 use Rattle.seq_conv.specs.Event.{Event, is_drain}
 use Rattle.seq_conv.specs.Log.{value_read}
-use Rattle.seq_conv.specs.Machine.{State, Steps, after_all, initial}
+use Rattle.seq_conv.specs.Machine.{Steps, after_all, initial}
 use Rattle.seq_conv.specs.Part.{Fills, Slot, part_of}
-use Rattle.seq_conv.specs.Sequence.{rank_of, stores_of}
+use Rattle.seq_conv.specs.Sequence.{rank_of}
 use Rattle.profile_check.specs.declared.kind.AtomKind.{AtomKind}
 use Rattle.profile_check.specs.declared.kind.AtomKind.TheVariants.{Rf, Fr, Exact}
 use Rattle.outcome_conv.specs.Holds.{location_read}
-use Rattle.run_witness.specs.Marks.{Mark, is_storing, loop_of, stored}
+use Rattle.run_witness.specs.Marks.{Mark, is_storing, loop_of}
 use Rattle.run_witness.specs.Order.{is_store}
-use Rattle.run_witness.specs.Stage.{OwnStands}
+use Rattle.run_witness.specs.Stage.{Stands}
 use Rattle.verdict.specs.declared.node.Node.{Node}
 use Rattle.verdict.specs.Edges.{asked_of}
 
--- all stores of a location stand in this thread
-abbrev pub IsWriterOf : LitmusTest → ℕ → ℕ → Type 0
-IsWriterOf test x w = Each (λ s. s.thread ≡ w) (stores_of test x)
-
--- the state of the machine is that of threads that have come so far
-pub record Stands (test : LitmusTest) (n : ℕ) (s : State) (marks : ℕ → Mark) : Type 0 where
-  pub own : (t : ℕ) → OwnStands test n t (marks t) (s.buffer t)
-  pub memory : (x w : ℕ) → IsWriterOf test x w → s.memory x ≡ stored x (loop_of test n w) (marks w).drained
-
--- the value that an exact or an fr atom asks for, in one iteration: the rank of the store that it names, or 0
+-- the value that an atom asks for, in one iteration: the rank of the store that it names, or 0
 abbrev pub wanted : LitmusTest → AtomKind → ℕ
-wanted test (Rf reader column writer place) = 0
+wanted test (Rf reader column writer place) =
+    rank_of test (location_read test reader column) (record { thread = writer; place = place })
 wanted test (Fr reader column writer) = 0
 wanted test (Exact reader column writer place) =
     rank_of test (location_read test reader column) (record { thread = writer; place = place })

@@ -30,7 +30,7 @@ none_at : (checked : CheckedTest) (c : ℕ) → NoneIsShown checked c → (IsOrd
 none_at checked c before here b (inl lt) = before b lt
 none_at checked c before here b (inr same) = subst (λ k. IsOrdered checked k → HasCycle checked k) (sym same) here
 
--- one conjunction more that has an rf atom or a cycle
+-- one conjunction more that is not ordered or has a cycle
 pub none_more : (checked : CheckedTest) (c : ℕ) → NoneIsShown checked c → (IsOrdered checked c → HasCycle checked c)
     → NoneIsShown checked (c + 1)
 none_more checked c before here b lt =

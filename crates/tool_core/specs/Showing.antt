@@ -16,24 +16,24 @@ use Rattle.verdict.specs.declared.answer.Verdict.TheVariants.{Forbidden, Open}
 use Rattle.decision.specs.Shown.{IsOrdered, Shows}
 use Rattle.tool_core.specs.Texts.{forbidden_text}
 
--- conjunction c has neither an rf atom nor a cycle of edges, and these events show it
+-- conjunction c is ordered, its edges have no cycle, and these events show it
 pub record IsShownBy (checked : CheckedTest) (c : ℕ) (events : List RunEvent) : Type 0 where
   pub ordered : IsOrdered checked c
   pub none : HasNoCycle checked c
   pub shows : Shows checked c (map event_of events)
 
--- each of the first so many conjunctions has an rf atom or a cycle of edges
+-- each of the first so many conjunctions that is ordered has a cycle of edges
 abbrev pub NoneIsShown : CheckedTest → ℕ → Type 0
 NoneIsShown checked count = (c : ℕ) → c < count → IsOrdered checked c → HasCycle checked c
 
--- these events show a conjunction, the first that has neither an rf atom nor a cycle
+-- these events show a conjunction, the first that is ordered and has no cycle
 pub record IsFirstShown (checked : CheckedTest) (events : List RunEvent) : Type 0 where
   pub c : ℕ
   pub there : c < length checked.test.ends
   pub shown : IsShownBy checked c events
   pub earlier : NoneIsShown checked c
 
--- The text tells a run that shows the first conjunction with neither an rf atom nor a cycle; or one cycle for each
+-- The text tells a run that shows the first conjunction that is ordered and has no cycle; or one cycle for each
 -- conjunction; or, where there is neither, the first conjunction without a cycle.
 pub data IsShowingOn (checked : CheckedTest) (text : List ℕ) : Type 0 where
   run : (events : List RunEvent) → IsFirstShown checked events → text ≡ run_text_of 1 events → IsShowingOn checked text

@@ -23,7 +23,7 @@ use std::alloc::Global;
 use verdict::{Verdict, verdict};
 use x86_subset::Test;
 
-// The events that show a conjunction, where it has neither an rf atom nor a cycle.
+// The events that show a conjunction, where it is ordered and has no cycle.
 fn events_at(
     alloc: Global,
     checked: &Checked,
@@ -37,7 +37,7 @@ fn events_at(
         (λ events. IsShownBy checked.now conjunction events.items)) }
 {
     let _test = checked.test();
-    if !is_ordered(checked, conjunction) {
+    if !is_ordered(checked, sequences, conjunction) {
         return Ok(None);
     }
     match show(alloc, checked, sequences, conjunction)? {
@@ -46,7 +46,7 @@ fn events_at(
     }
 }
 
-// The events that show the first conjunction that has neither an rf atom nor a cycle, if there is one.
+// The events that show the first conjunction that is ordered and has no cycle, if there is one.
 fn first_shown(
     alloc: Global,
     checked: &Checked,

@@ -2,12 +2,16 @@
 use super::*;
 
 // Each thread reads the other's word behind a fence, and then its own: the atoms of the first reads are exact or fr atoms,
-// and those of the second are rf atoms.
+// and those of the second are rf atoms of the own newest store.
 const TWICE: &str =
     "X86 TWICE\n{ }\n P0 | P1 ;\n MOV [x],$1 | MOV [y],$1 ;\n MFENCE | MFENCE ;\n MOV EAX,[y] | MOV EAX,[x] ;\n MOV EBX,[x] | MOV EBX,[y] ;\n";
 
+// Each thread stores to its own word twice, and reads it and the other's behind a fence.
+const HIDDEN: &str =
+    "X86 HIDDEN\n{ }\n P0 | P1 ;\n MOV [x],$1 | MOV [y],$1 ;\n MOV [x],$2 | MOV [y],$2 ;\n MFENCE | MFENCE ;\n MOV EAX,[x] | MOV EAX,[y] ;\n MOV EBX,[y] | MOV EBX,[x] ;\n";
+
 // A test, its condition where the text has none, two lines of the run that is shown, and what `judge` says of that run.
-const SHOWN: [(&str, &str, [&str; 2], &str); 4] = [
+const SHOWN: [(&str, &str, [&str; 2], &str); 6] = [
     (
         SB,
         "",
@@ -27,12 +31,24 @@ const SHOWN: [(&str, &str, [&str; 2], &str); 4] = [
         ["\nP0 0 2 read 1\n", "\nP1 0 2 read 1\n"],
         "Legal 10\n",
     ),
-    // the first conjunction has an rf atom
+    (
+        OWN,
+        "",
+        ["\nP0 0 1 read 1\n", "\nP1 0 1 read 1\n"],
+        "Legal 6\n",
+    ),
     (
         TWICE,
-        "exists (0:EBX=1 \\/ 0:EAX=1 /\\ 1:EAX=0 \\/ 1:EAX=1)\n",
-        ["\nP0 0 2 read 1\n", "\nP1 0 2 read 0\n"],
+        "exists (0:EAX=0 /\\ 1:EAX=0 \\/ 0:EAX=0 /\\ 0:EBX=1)\n",
+        ["\nP0 0 2 read 0\n", "\nP0 0 3 read 1\n"],
         "Legal 10\n",
+    ),
+    // the first conjunction names a store that the next one hides
+    (
+        HIDDEN,
+        "exists (0:EAX=1 \\/ 0:EAX=2 /\\ 0:EBX=0 \\/ 1:EAX=2)\n",
+        ["\nP0 0 3 read 2\n", "\nP0 0 4 read 0\n"],
+        "Legal 14\n",
     ),
 ];
 
@@ -82,19 +98,26 @@ fn cycles_are_shown(rt: HostRuntime) -> Result<(), Fail> {
 // The words, a test, its condition where the text has none, the number of the status, and what is written to both
 // sinks.
 const UNSHOWN: [(&str, &str, &str, u8, &str, &str); 7] = [
-    ("show", OWN, "", 0, "Undecided 0\n", ""),
     (
         "show",
-        TWICE,
-        "exists (0:EBX=1 \\/ 0:EAX=0 /\\ 1:EAX=0)\n",
+        TWO_WRITERS,
+        "exists (2:EAX=1)\n",
         0,
         "Undecided 0\n",
         "",
     ),
     (
         "show",
-        TWICE,
-        "exists (0:EAX=0 /\\ 1:EAX=0 \\/ 1:EBX=1)\n",
+        HIDDEN,
+        "exists (0:EAX=1 \\/ 0:EBX=0 /\\ 1:EBX=0)\n",
+        0,
+        "Undecided 0\n",
+        "",
+    ),
+    (
+        "show",
+        HIDDEN,
+        "exists (0:EBX=0 /\\ 1:EBX=0 \\/ 1:EAX=1)\n",
         0,
         "Undecided 1\n",
         "",
