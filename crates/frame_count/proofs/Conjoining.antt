@@ -1,5 +1,5 @@
 -- The conjunctions from one on.
-use Rattle.std.proofs.Common.{◌≡◌, ℕ, zero, suc, ◌+◌, ◌-◌, ◌<◌, ◌||◌, ◌∙◌, Bool, false, refl, List, [], ◌∷◌, length, map, sym, ap, arith}
+use Rattle.std.proofs.Common.{◌≡◌, ℕ, zero, suc, ◌+◌, ◌-◌, ◌<◌, ◌||◌, ◌∙◌, Bool, false, true, refl, List, [], ◌∷◌, length, map, sym, ap, arith}
 use Rattle.std.specs.List.{list_any, range_with_len}
 use Rattle.x86_subset.specs.Conjunctions.{conjunction_of, conjunctions_of}
 
@@ -32,3 +32,13 @@ any_range p ends xs a (suc n) h =
 -- where no conjunction passes
 pub any_none : {A : Type 0} (p : List A → Bool) (ends : List ℕ) (xs : List A) → ((c : ℕ) → c < length ends → p (conjunction_of ends xs c) ≡ false) → list_any p (conjunctions_of ends xs) ≡ false
 any_none p ends xs h = any_range p ends xs 0 (length ends) (λ i lt. let e : 0 + i ≡ i = omega arith in ap (λ k. p (conjunction_of ends xs k)) e ∙ h i lt)
+
+-- one conjunction alone
+or_false : (b : Bool) → (b || false) ≡ b
+or_false true = refl
+or_false false = refl
+
+pub any_one : {A : Type 0} (p : List A → Bool) (ends : List ℕ) (xs : List A) → length ends ≡ 1 → list_any p (conjunctions_of ends xs) ≡ p (conjunction_of ends xs 0)
+any_one p ends xs e =
+    ap (list_any p) (rest_first ends xs ∙ rest_next ends xs 0 (omega arith) ∙ ap (λ rest. conjunction_of ends xs 0 ∷ rest) (rest_end ends xs 1 (sym e)))
+    ∙ or_false (p (conjunction_of ends xs 0))

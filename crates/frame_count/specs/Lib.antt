@@ -1,5 +1,6 @@
 pub mod Count
 pub mod Counted
+pub mod Known
 pub mod Row
 pub mod RunLogs
 pub mod TwoLogs

@@ -5,10 +5,12 @@ ghost use Rattle.load_log.specs.Values.{Values};
 ghost use Rattle.outcome_conv.specs.Conditions.{Conditions};
 ghost use Rattle.frame_count.specs.Count.{IsFrameOf, IsOfLogs, frame_holds, with_last};
 ghost use Rattle.frame_count.specs.Counted.{Counts};
+ghost use Rattle.frame_count.specs.Known.{Tells};
 ghost use Rattle.frame_count.specs.declared.stretch.Stretch.{Stretch};
 
+use crate::known::Known;
 use crate::reach::{MOST_CONJUNCTIONS, hull, reaches};
-use crate::row::count_within;
+use crate::row::count_row;
 use crate::stretch::Stretch;
 use load_log::Logs;
 use outcome_conv::Conds;
@@ -55,12 +57,14 @@ impl Counted {
         &mut self,
         conds: &Conds,
         logs: &Logs,
+        known: &Known,
         frame: &Frame,
         from: usize,
         to: usize,
     ) -> u64
         requires frame { (n : ℕ) × (from ≤ to) × (to ≤ n) × IsFrameOf logs.now.logs n frame.now }
         requires names { All (IsOfLogs logs.now.logs) conds.now.conds }
+        requires known { Tells conds.now logs.now.logs known.now }
         requires counts { Counts conds.now logs.now.logs self.old }
         ensures hits { result ≡ count_by (λ m. frame_holds conds.now logs.now.logs (with_last frame.now m)) (range_with_len from (to - from)) }
         ensures counts { Counts conds.now logs.now.logs self.new }
@@ -70,7 +74,7 @@ impl Counted {
         if self.from == from && self.to == to && count_alike(&self.stretches, some) {
             return self.hits;
         }
-        let hits = count_within(conds, logs, frame, &stretches, from, to);
+        let hits = count_row(conds, logs, known, frame, &stretches, from, to);
         if !hull(some).is_empty() {
             *self = Counted {
                 from,

@@ -4,7 +4,7 @@ ghost use Rattle.std.specs.List.{range_with_len};
 ghost use Rattle.std.specs.Simd.Lanes.{Each1, mask_l, zip2};
 ghost use Rattle.outcome_conv.specs.Conditions.{IsKind};
 ghost use Rattle.outcome_conv.specs.Conds.{kind_holds};
-ghost use Rattle.frame_count.specs.Row.{bound_of, kind_test, mask_along};
+ghost use Rattle.frame_count.specs.Row.{bound_of, kind_test, mask_along, residue_fits};
 
 use outcome_conv::CondKind;
 use std::simd::prelude::*;
@@ -255,6 +255,20 @@ fn residue_word(values: &[u64], k: u64, a: u64, at: usize) -> u64
             ensures { result ≡ mask_along (λ m. slice_index values.entry.now m % k == a % k) i 8 }
         { residue_bits(value_lanes(values, i), k, a, gap, step) },
     )
+}
+
+/// Which of sixty-four values have the residue that a condition of this kind asks.
+pub(crate) fn fitting_word(kind: CondKind, values: &[u64], at: usize) -> u64
+    requires kind { IsKind kind }
+    requires at { at + 64 ≤ 100000 }
+    requires room { at + 64 ≤ length values.now }
+    ensures { result ≡ mask_along (λ m. residue_fits kind (slice_index values.now m)) at 64 }
+{
+    match kind {
+        CondKind::AtLeast { k, a } => residue_word(values, k, a, at),
+        CondKind::Below { .. } => u64::MAX,
+        CondKind::Exact { .. } => u64::MAX,
+    }
 }
 
 /// Which of sixty-four values pass, by a bound that stays.

@@ -8,7 +8,8 @@
 //! What the other threads' iterations settle of a row is tested once: each conjunction gets a stretch of the last thread's
 //! iterations outside of which it cannot hold (`reach`, its clause `Leaves` of `specs/Row`). Where the last thread's values
 //! never fall, as where one thread writes, the bounds of a stretch are searched for. What is left is tested eight iterations
-//! at once by lanes, sixty-four to a word.
+//! at once by lanes, sixty-four to a word. Where one condition alone is on what the last thread logged, each word of its column is known
+//! before (`known`, its clause `Tells` of `specs/Known`), and lanes test those alone that the bound of a row cuts.
 //!
 //! A row with the bounds and stretches of the row that is remembered, of which no test is left that changes from row to row, has as many
 //! hits; so it is counted in one step (`Counted::next`). What the last thread reads of its own stores is tested in one row for many.
@@ -20,6 +21,7 @@
 
 mod at_frame;
 mod counted;
+mod known;
 mod lanes;
 mod laws;
 mod numbers;

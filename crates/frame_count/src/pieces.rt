@@ -4,9 +4,11 @@ ghost use Rattle.std.specs.List.{range_with_len};
 ghost use Rattle.load_log.specs.Values.{AreWhole, value_at};
 ghost use Rattle.outcome_conv.specs.Conds.{count_of};
 ghost use Rattle.frame_count.specs.Counted.{Counts};
+ghost use Rattle.frame_count.specs.Known.{Tells};
 ghost use Rattle.frame_count.specs.Count.{CanCount, IsOfLogs, number_holds, piece_by_turns, piece_count};
 
 use crate::counted::Counted;
+use crate::known::Known;
 use crate::numbers::{MOST_FRAMES, frame_of, power};
 use load_log::Logs;
 use outcome_conv::Conds;
@@ -14,28 +16,38 @@ use rayon::prelude::*;
 use std::thread::Threads;
 
 /// The row of the first frame, counted: each piece begins with it, since other rows may count alike.
-fn first_row(conds: &Conds, logs: &Logs, n: u32) -> Counted
+fn first_row(conds: &Conds, logs: &Logs, known: &Known, n: u32) -> Counted
     requires iterations { (1 ≤ n) × (n ≤ 100000) }
     requires threads { (1 ≤ length logs.now.logs) × (length logs.now.logs ≤ 8) }
     requires few { n ^ length logs.now.logs ≤ MOST_FRAMES }
     requires whole { AreWhole n logs.now.logs }
     requires names { All (IsOfLogs logs.now.logs) conds.now.conds }
+    requires known { Tells conds.now logs.now.logs known.now }
     ensures { Counts conds.now logs.now.logs result }
 {
     let frame = frame_of(0, n, logs.len());
     let mut counted = Counted::nothing();
-    counted.next(conds, logs, &frame, 0, n as usize);
+    counted.next(conds, logs, known, &frame, 0, n as usize);
     counted
 }
 
 /// At how many of the frames with the numbers from `from` up to and without `to` the conditions hold.
-fn piece(conds: &Conds, logs: &Logs, first: &Counted, n: u32, from: u64, to: u64) -> u64
+fn piece(
+    conds: &Conds,
+    logs: &Logs,
+    known: &Known,
+    first: &Counted,
+    n: u32,
+    from: u64,
+    to: u64,
+) -> u64
     requires iterations { (1 ≤ n) × (n ≤ 100000) }
     requires threads { (1 ≤ length logs.now.logs) × (length logs.now.logs ≤ 8) }
     requires numbers { (from ≤ to) × (to ≤ n ^ length logs.now.logs) }
     requires few { n ^ length logs.now.logs ≤ MOST_FRAMES }
     requires whole { AreWhole n logs.now.logs }
     requires names { All (IsOfLogs logs.now.logs) conds.now.conds }
+    requires known { Tells conds.now logs.now.logs known.now }
     requires first { Counts conds.now logs.now.logs first.now }
     ensures { result ≡ count_by (number_holds conds.now logs.now.logs n) (range_with_len from (to - from)) }
 {
@@ -47,19 +59,37 @@ fn piece(conds: &Conds, logs: &Logs, first: &Counted, n: u32, from: u64, to: u64
         let start = (at % n as u64) as usize;
         let row = u64::min(n as u64 - start as u64, to - at);
         let frame = frame_of(at, n, threads);
-        total += counted.next(conds, logs, &frame, start, start + row as usize);
+        total += counted.next(conds, logs, known, &frame, start, start + row as usize);
         at += row;
     }
     total
 }
 
 /// At how many frames of piece `j` of the cut the conditions hold.
-fn piece_at(conds: &Conds, logs: &Logs, first: &Counted, n: u32, all: u64, cut: u64, j: u64) -> u64
+fn piece_at(
+    conds: &Conds,
+    logs: &Logs,
+    known: &Known,
+    first: &Counted,
+    n: u32,
+    all: u64,
+    cut: u64,
+    j: u64,
+) -> u64
     requires piece { CanCount conds.now logs.now.logs n all cut × (j < cut) }
+    requires known { Tells conds.now logs.now.logs known.now }
     requires first { Counts conds.now logs.now.logs first.now }
     ensures { result ≡ piece_count conds.now logs.now.logs n all cut j }
 {
-    piece(conds, logs, first, n, j * all / cut, (j + 1) * all / cut)
+    piece(
+        conds,
+        logs,
+        known,
+        first,
+        n,
+        j * all / cut,
+        (j + 1) * all / cut,
+    )
 }
 
 /// The piece that is handed out as number `j`. Pieces near the front may take longer than those near the back, or the other way round, and
@@ -92,15 +122,17 @@ pub fn count<R: Threads + Sync>(
 {
     let all = power(n, t);
     let cut = cut as u64;
-    let row = first_row(conds, logs, n);
+    let column = Known::of(conds, logs, n as usize);
+    let known = &column;
+    let row = first_row(conds, logs, known, n);
     let first = &row;
     (0..cut)
         .into_par_iter()
         .map(
             |j: u64| -> u64
-                requires { CanCount conds.now logs.now.logs n all cut × (j < cut) × Counts conds.now logs.now.logs first.now }
+                requires { CanCount conds.now logs.now.logs n all cut × (j < cut) × Tells conds.now logs.now.logs known.now × Counts conds.now logs.now.logs first.now }
                 ensures { result ≡ piece_count conds.entry.now logs.entry.now.logs n all cut (piece_by_turns cut j) }
-            { piece_at(conds, logs, first, n, all, cut, by_turns(cut, j)) },
+            { piece_at(conds, logs, known, first, n, all, cut, by_turns(cut, j)) },
         )
         .with_min_len(1)
         .sum::<u64>(rt)

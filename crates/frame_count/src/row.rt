@@ -5,9 +5,11 @@ ghost use Rattle.x86_subset.specs.Conjunctions.{conjunction_of};
 ghost use Rattle.load_log.specs.Values.{value_at};
 ghost use Rattle.outcome_conv.specs.Conds.{conds_hold};
 ghost use Rattle.frame_count.specs.Count.{IsFrameOf, IsGood, IsOfLogs, frame_holds, with_last};
+ghost use Rattle.frame_count.specs.Known.{IsKnown, Tells};
 ghost use Rattle.frame_count.specs.declared.stretch.Stretch.{Stretch};
 ghost use Rattle.frame_count.specs.Row.{Leaves, holds_along, left_along, mask_along};
 
+use crate::known::Known;
 use crate::lanes::{bound, own_word, values_word};
 use crate::one::{is_left, some_at};
 use crate::reach::{hull, reaches};
@@ -161,6 +163,62 @@ pub(crate) fn count_within(
         count_between(conds, logs, frame, stretches, first, end)
     } else {
         0
+    }
+}
+
+/// The same where words of one condition's column are known: whole words of its stretch by what is known.
+fn count_known(
+    conds: &Conds,
+    logs: &Logs,
+    known: &Known,
+    frame: &Frame,
+    stretches: &[Stretch],
+    from: usize,
+    to: usize,
+) -> u64
+    requires frame { (n : ℕ) × (from ≤ to) × (to ≤ n) × IsFrameOf logs.now.logs n frame.now }
+    requires names { All (IsOfLogs logs.now.logs) conds.now.conds }
+    requires each { length conds.now.ends ≤ length stretches.now }
+    requires stretches { (c : ℕ) (d : Stretch) → c < length conds.now.ends → Leaves to logs.now.logs frame.now (conjunction_of conds.now.ends conds.now.conds c) (slice_index_or stretches.now c d) }
+    requires known { IsKnown conds.now logs.now.logs known.now }
+    ensures { result ≡ count_by (λ m. frame_holds conds.now logs.now.logs (with_last frame.now m)) (range_with_len from (to - from)) }
+{
+    let stretch = stretches[0];
+    let first = stretch.from.max(from).div_ceil(64);
+    let end = (stretch.to.min(to) / 64).min(known.words);
+    if first >= end || !stretch.row {
+        return count_within(conds, logs, frame, stretches, from, to);
+    }
+    let cond = &known.cond;
+    let values = logs.at(cond.reader as usize).column(cond.column as usize);
+    let bound = bound(cond.kind, frame.at(cond.writer as usize));
+    let middle = known.count(values, bound, first, end);
+    let front = count_within(conds, logs, frame, stretches, from, 64 * first);
+    let back = count_within(conds, logs, frame, stretches, 64 * end, to);
+    front + middle + back
+}
+
+/// The same of a row with these stretches, by what is known if there is something.
+pub(crate) fn count_row(
+    conds: &Conds,
+    logs: &Logs,
+    known: &Known,
+    frame: &Frame,
+    stretches: &[Stretch],
+    from: usize,
+    to: usize,
+) -> u64
+    requires frame { (n : ℕ) × (from ≤ to) × (to ≤ n) × IsFrameOf logs.now.logs n frame.now }
+    requires names { All (IsOfLogs logs.now.logs) conds.now.conds }
+    requires each { length conds.now.ends ≤ length stretches.now }
+    requires stretches { (c : ℕ) (d : Stretch) → c < length conds.now.ends → Leaves to logs.now.logs frame.now (conjunction_of conds.now.ends conds.now.conds c) (slice_index_or stretches.now c d) }
+    requires known { Tells conds.now logs.now.logs known.now }
+    ensures { result ≡ count_by (λ m. frame_holds conds.now logs.now.logs (with_last frame.now m)) (range_with_len from (to - from)) }
+{
+    if known.words == 0 {
+        count_within(conds, logs, frame, stretches, from, to)
+    } else {
+        count_known(conds, logs, known, frame, stretches, from, to)
     }
 }
 

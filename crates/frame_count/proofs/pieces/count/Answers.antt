@@ -5,6 +5,7 @@ use Rattle.rayon.proofs.ToStd.{nat_range-All}
 use Rattle.load_log.specs.Values.{value_at}
 use Rattle.outcome_conv.specs.Conds.{count_of}
 use Rattle.frame_count.specs.Count.{CanCount, number_holds}
+use Rattle.frame_count.specs.Known.{Tells}
 use Rattle.frame_count.specs.Counted.{Counts}
 use Rattle.frame_count.proofs.Counts.{count_bound}
 use Rattle.frame_count.proofs.Cuts.{sum_all}
@@ -26,7 +27,7 @@ sum-requires-clause-ready g c κs within =
       whole = c.requires.whole;
       names = c.requires.names;
     } in
-    let inside = nat_range-All (λ j. (CanCount c.args.conds.now c.args.logs.now.logs c.args.n c.power-all.result c.args.cut) × (j < c.args.cut) × Counts c.args.conds.now c.args.logs.now.logs c.first_row-row.result) 0 c.args.cut (λ i low high. (can, high, c.first_row-row.ensures)) in
+    let inside = nat_range-All (λ j. (CanCount c.args.conds.now c.args.logs.now.logs c.args.n c.power-all.result c.args.cut) × (j < c.args.cut) × Tells c.args.conds.now c.args.logs.now.logs c.of-column.result × Counts c.args.conds.now c.args.logs.now.logs c.first_row-row.result) 0 c.args.cut (λ i low high. (can, high, c.of-column.ensures, c.first_row-row.ensures)) in
     rw (c.with_min_len.ensures.base, c.map.ensures.base, c.map.ensures.f, ends.0, ends.1) (λ k d lt. ((inside k d lt), λ y p. tt))
 
 pub sum-requires-clause-fits : goal.sum-requires-clause-fits

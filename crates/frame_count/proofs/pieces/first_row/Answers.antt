@@ -11,5 +11,6 @@ next-requires c =
     record {
       frame = (n, omega arith, omega arith, frame_is n 0 logs c.frame_of-frame.result c.requires.iterations.0 c.requires.iterations.1 c.requires.threads.0 c.requires.whole frame);
       names = c.requires.names;
+      known = c.requires.known;
       counts = c.nothing-counted.ensures c.args.conds.now c.args.logs.now.logs;
     }

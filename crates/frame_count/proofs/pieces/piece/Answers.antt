@@ -18,6 +18,7 @@ next-total-requires c =
     record {
       frame = (n, omega arith, omega arith, frame_is n at logs c.frame_of-frame.result c.requires.iterations.0 c.requires.iterations.1 c.requires.threads.0 c.requires.whole frame);
       names = c.requires.names;
+      known = c.requires.known;
       counts = c.loop-at.invariant.counts;
     }
 

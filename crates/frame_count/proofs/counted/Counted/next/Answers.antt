@@ -41,5 +41,5 @@ returns-then-count_alike-clause-hits c = hits c
 pub returns-then-not-is_empty-clause-counts : goal.returns-then-not-is_empty-clause-counts
 returns-then-not-is_empty-clause-counts c =
     counts_alike c.args.conds.now c.args.logs.now.logs c.requires.frame.0 c.args.frame.now
-    (record { from = c.args.from; to = c.args.to; stretches = c.reaches-stretches.result; hits = c.count_within-hits.result })
-    c.requires.frame.1 c.requires.frame.3 c.reaches-stretches.ensures.leave c.count_within-hits.ensures
+    (record { from = c.args.from; to = c.args.to; stretches = c.reaches-stretches.result; hits = c.count_row-hits.result })
+    c.requires.frame.1 c.requires.frame.3 c.reaches-stretches.ensures.leave c.count_row-hits.ensures
