@@ -1,5 +1,5 @@
 -- A text that is read as a test names it and its locations in ASCII.
-use Rattle.std.proofs.Common.{◌≡◌, ℕ, zero, suc, ◌+◌, ◌<◌, Bool, true, false, ◌&&◌, cond, List, [], ◌∷◌, take, drop, Option, Some, None, Result, Ok, Err, refl, ap, subst, arith}
+use Rattle.std.proofs.Common.{◌≡◌, ℕ, zero, suc, ◌+◌, ◌<◌, Bool, true, false, ◌&&◌, cond, List, [], ◌∷◌, take, drop, Option, Some, None, Result, Ok, Err, refl, subst, arith}
 use Rattle.std.specs.Prelude.{◌==◌, ◌^◌, All, IfOk, slice_index, nat_lt, is_none}
 use Rattle.std.specs.Str.{IsAscii}
 use Rattle.std.specs.List.{list_all, prefix_len}
@@ -11,24 +11,22 @@ use Rattle.x86_subset.specs.declared.cell.InstrError.TheVariants.{Number as TooL
 use Rattle.x86_subset.specs.declared.form.Slot.{Slot}
 use Rattle.x86_subset.specs.declared.form.Slot.TheVariants.{Mark, Maybe, Word, Location, Register, Any, Small, Thread}
 use Rattle.x86_subset.specs.declared.instr.Reg.{Reg}
-use Rattle.x86_subset.specs.declared.test.Shape.{Shape}
 use Rattle.x86_subset.specs.declared.token.Cut.{Cut}
 use Rattle.x86_subset.specs.declared.token.TokenKind.{TokenKind}
 use Rattle.x86_subset.specs.declared.token.TokenKind.TheVariants.{Name, Number, Left, Right, LeftSquare, RightSquare, LeftBrace, RightBrace, Semi, Bar, Comma, Colon, Equal, Dollar, Tilde, Both, Either, Other}
 use Rattle.x86_subset.specs.Test.{Code, LitmusTest}
-use Rattle.x86_subset.specs.Shape.{limit_of}
 use Rattle.x86_subset.specs.Token.{is_blank, is_digit, is_letter, is_head, is_tail, is_pair, sign, close_end, nothing, token, comment_cut, pair_cut, cut_at, Spot, after_byte, Lexeme, put, lex}
 use Rattle.x86_subset.specs.Form.{kind_code, is, is_keyword, register_of, value, Found, nothing_found, with_register, fill, may_miss, fit, Row, whole, meaning}
 use Rattle.x86_subset.specs.Cell.{Form, Blank, Fence, StoreNumber, StoreRegister, Load, Constant, Exchange, Threads, cell_rows, is_small, judged, parse, place_in, having_by, having, code_after, locations_after}
 use Rattle.litmus_reader.specs.declared.kind.LitmusKind.TheVariants.{NotX86}
-use Rattle.litmus_reader.specs.Answer.{Refusal, Accepted, refuse}
+use Rattle.litmus_reader.specs.Answer.{Accepted, refuse}
 use Rattle.litmus_reader.specs.Front.{words, is_printed, is_x86, name_of, Rest, named_or_not, rest_at, line_in, behind_line, first_line}
 use Rattle.x86_subset.specs.Token.{after_bytes, start}
 use Rattle.litmus_reader.specs.Rows.{body_of, threads_after}
-use Rattle.litmus_reader.specs.Reading.{sections_at, limited, answer_of, read_text}
+use Rattle.litmus_reader.specs.Reading.{sections_at, read_text}
 use Rattle.litmus_reader.specs.declared.kind.LitmusError.{LitmusError}
 use Rattle.litmus_reader.specs.Answered.{IfAnswered, HasAsciiNames, NamesAreAscii}
-use Rattle.litmus_reader.proofs.ReadingLaws.{one_reading}
+use Rattle.litmus_reader.proofs.ReadingLaws.{accepted_is, one_reading}
 use Rattle.litmus_reader.proofs.RowsKeep.{Are, sections_keep}
 use Rattle.litmus_reader.proofs.Bound.{ok_is}
 
@@ -302,21 +300,9 @@ sections_ascii text test e =
     let k = sections_keep IsPlain AreAscii (λ row. All-nil IsAscii) acted_ascii text test (λ at text. lex_plain 0 at text) e in
     subst HasAsciiNames k.kept.is (first_ascii text k.first k.is_first, k.kept.good)
 
--- the sections of a text that is read as a test
-accepted_is : (text : List ℕ) (test : LitmusTest) → read_text text ≡ Accepted test → sections_at text ≡ Ok test
-unfolding read_text
-accepted_is text test e = go (sections_at text) e
-  where
-    same : (t : LitmusTest) (o : Option Shape) → limited t o ≡ Accepted test → t ≡ test
-    same t None e = cc
-    same t (Some limit) e = absurd cc
-
-    go : (r : Result LitmusTest Refusal) → answer_of r ≡ Accepted test → r ≡ Ok test
-    go (Err d) e = absurd cc
-    go (Ok t) e = ap (λ (t : LitmusTest). Ok t) (same t (limit_of t) e)
-
 read_ascii : (text : List ℕ) (test : LitmusTest) → read_text text ≡ Accepted test → HasAsciiNames test
-read_ascii text test e = sections_ascii text test (accepted_is text test e)
+unfolding read_text
+read_ascii text test e = sections_ascii text test (accepted_is (sections_at text) test e).0
 
 pub names_are_ascii : NamesAreAscii
 names_are_ascii text test h = read_ascii text test ((one_reading text).1 (Accepted test) h)

@@ -4,6 +4,7 @@ pub mod EndsLaws
 pub mod NestLaws
 pub mod RowsKeep
 pub mod FitLaws
+pub mod TestLaws
 mod Examples
 pub mod FrontLaws
 pub mod InitialLaws

@@ -4,7 +4,7 @@ use Rattle.x86_subset.specs.declared.test.Shape.{Shape}
 use Rattle.x86_subset.specs.Test.{LitmusTest}
 use Rattle.x86_subset.specs.Token.{Lexeme, lex}
 use Rattle.x86_subset.proofs.TokenLaws.{lexes_only, lexes_made}
-use Rattle.litmus_reader.specs.Answer.{Refusal, Answer, ◌>>=◌, Then, stops, goes_on, last_line}
+use Rattle.litmus_reader.specs.Answer.{Refusal, Answer, Accepted, ◌>>=◌, Then, stops, goes_on, last_line}
 use Rattle.litmus_reader.specs.Front.{Rest}
 use Rattle.litmus_reader.specs.Condition.{Term, none_read, Told, Joined, in_a_row}
 use Rattle.litmus_reader.specs.Expression.{outermost, expression_at, AtTerm}
@@ -117,3 +117,13 @@ answer_only text answer (accepted test h e) =
 pub one_reading : OneReading
 unfolding read_text
 one_reading text = (answer_made text (sections_at text) (sections_exactly text).holds, answer_only text)
+
+-- an accepted test is what the sections say, and passes no limit
+pub accepted_is : (r : Result LitmusTest Refusal) (test : LitmusTest) → answer_of r ≡ Accepted test
+    → (r ≡ Ok test) × (limit_of test ≡ None)
+accepted_is (Err e) test h = absurd cc
+accepted_is (Ok made) test h = go (limit_of made) refl h
+  where
+    go : (o : Option Shape) → limit_of made ≡ o → limited made o ≡ Accepted test → ◌≡◌ {A = Result LitmusTest Refusal} (Ok made) (Ok test) × (limit_of test ≡ None)
+    go None e h = let same : made ≡ test = cc in (ap Ok same, subst (λ (t : LitmusTest). limit_of t ≡ None) same e)
+    go (Some limit) e h = absurd cc

@@ -1,35 +1,26 @@
 -- What a text is read as is a test: it is within the limits, and its registers hold constants and what its bodies read.
-use Rattle.std.proofs.Common.{◌≡◌, ℕ, zero, suc, ◌==◌, Bool, true, false, cond, All, List, [], ◌∷◌, ◌++◌, length, Option, Some, None, Result, Ok, Err, refl, ap, subst, arith, ltb-false}
-use Rattle.std.specs.Prelude.{slice_index_or, if◌then◌else◌}
+use Rattle.std.proofs.Common.{◌≡◌, ℕ, Bool, true, false, All, List, [], ◌∷◌, ◌++◌, length, Some, None, Ok, refl, subst, ltb-false}
+use Rattle.std.specs.Prelude.{if◌then◌else◌}
 use Rattle.std.specs.List.{list_any}
 use Rattle.std.proofs.lemmas.List.Elements.{All-set, All-replicate, All-from_recursion}
 use Rattle.x86_subset.specs.declared.instr.Instr.TheVariants as instr
 use Rattle.x86_subset.specs.declared.body.Held.{Held}
 use Rattle.x86_subset.specs.declared.body.Held.TheVariants as held
-use Rattle.x86_subset.specs.declared.cell.InstrError.{InstrError}
-use Rattle.x86_subset.specs.declared.test.Shape.{Shape}
 use Rattle.x86_subset.specs.declared.test.Shape.TheVariants.{Threads as TooManyThreads, Locations, Instrs, Atoms}
-use Rattle.x86_subset.specs.declared.token.TokenKind.TheVariants.{Semi}
-use Rattle.x86_subset.specs.Cell.{Form, Blank, Fence, StoreNumber, StoreRegister, Load, Constant, Exchange, Threads, adding, code_after, empty_code, held_by, location_number, parse, reading, with_constant}
-use Rattle.x86_subset.specs.Form.{is}
+use Rattle.x86_subset.specs.Cell.{Form, Blank, Fence, StoreNumber, StoreRegister, Load, Constant, Exchange, Threads, adding, code_after, empty_code, held_by, location_number, reading, with_constant}
 use Rattle.x86_subset.specs.Registers.{AreHeld, IsHeld, register_number}
 use Rattle.x86_subset.specs.Shape.{IsTest, is_long, limit_of}
 use Rattle.x86_subset.specs.Test.{Code, HoldsReads, LitmusTest}
-use Rattle.x86_subset.specs.Token.{Lexeme, lex}
+use Rattle.x86_subset.specs.Token.{Lexeme}
 use Rattle.x86_subset.proofs.HeldLaws.{are_held_more, are_held_read, are_held_set}
 use Rattle.x86_subset.proofs.ShapeLaws.{short_all}
-use Rattle.litmus_reader.specs.declared.kind.LitmusKind.TheVariants.{Column}
-use Rattle.litmus_reader.specs.Answer.{Accepted, Refusal, last_line, line_at, refuse, ◌>>=◌}
-use Rattle.litmus_reader.specs.Condition.{quantifier_at, section_at}
-use Rattle.litmus_reader.specs.Expression.{AtTerm, expression_at, outermost}
+use Rattle.litmus_reader.specs.Answer.{Accepted}
 use Rattle.litmus_reader.specs.Draft.{IsFit}
-use Rattle.litmus_reader.specs.Front.{first_line, head}
-use Rattle.litmus_reader.specs.Initial.{items}
-use Rattle.litmus_reader.specs.Reading.{Reads, answer_of, limited, read_text, sections_at, test_of, tokens_at}
-use Rattle.litmus_reader.specs.Rows.{act, acted, are_columns, body_of, cell_at, cells, cells_at, columns_at, ends_code, no_code, row_of, rows_at, threads_after}
+use Rattle.litmus_reader.specs.Reading.{Reads, read_text, sections_at}
+use Rattle.litmus_reader.specs.Rows.{body_of, cells, threads_after}
 use Rattle.litmus_reader.proofs.RowsKeep.{body_has, threads_keep}
 use Rattle.litmus_reader.proofs.FitLaws.{sections_fit}
-use Rattle.litmus_reader.proofs.ReadingLaws.{one_reading}
+use Rattle.litmus_reader.proofs.ReadingLaws.{accepted_is, one_reading}
 
 -- ---- what registers hold
 
@@ -53,16 +44,19 @@ module _ (locations : List (List ℕ)) (code : Code) (h : IsHolding code) where
   code_holds (StoreNumber x n) next e = some_code _ next e (more (instr.Store (location_number locations x) n))
   code_holds (StoreRegister x r) next e = go (held_by code r) e
     where
-      go : (v : Held) → with_constant v (λ n. adding code (instr.Store (location_number locations x) n)) ≡ Some next → IsHolding next
+      go : (v : Held) → with_constant v (λ n. adding code (instr.Store (location_number locations x) n)) ≡ Some next
+          → IsHolding next
       go (held.Constant n) k = some_code _ next k (more (instr.Store (location_number locations x) n))
       go (held.Read place) k = absurd cc
   code_holds (Load r x) next e =
       let i = instr.Load r (location_number locations x) in
       some_code _ next e (are_held_read code.actions (code.actions ++ i ∷ []) i code.registers (register_number r) (length code.actions) refl refl refl h)
-  code_holds (Constant r n) next e = some_code _ next e (are_held_set code.actions code.registers (register_number r) (held.Constant n) tt h)
+  code_holds (Constant r n) next e =
+      some_code _ next e (are_held_set code.actions code.registers (register_number r) (held.Constant n) tt h)
   code_holds (Exchange x r) next e = go (held_by code r) e
     where
-      go : (v : Held) → with_constant v (λ n. reading code r (instr.Exchange (location_number locations x) n r)) ≡ Some next → IsHolding next
+      go : (v : Held) → with_constant v (λ n. reading code r (instr.Exchange (location_number locations x) n r)) ≡ Some next
+          → IsHolding next
       go (held.Constant n) k =
           let i = instr.Exchange (location_number locations x) n r in
           some_code _ next k (are_held_read code.actions (code.actions ++ i ∷ []) i code.registers (register_number r) (length code.actions) refl refl refl h)
@@ -73,7 +67,8 @@ module _ (locations : List (List ℕ)) (code : Code) (h : IsHolding code) where
 abbrev AreHolding : Threads → Type 0
 AreHolding s = All IsHolding s.bodies
 
-acted_holds : (i : ℕ) (s : Threads) (form : Form) (code : Code) → code_after s.locations form (body_of i s) ≡ Some code → AreHolding s
+acted_holds : (i : ℕ) (s : Threads) (form : Form) (code : Code) → code_after s.locations form (body_of i s) ≡ Some code
+    → AreHolding s
     → AreHolding (threads_after i form s code)
 acted_holds i s form code k h =
     All-set IsHolding s.bodies i code (code_holds s.locations (body_of i s) (body_has IsHolding empty_holds i s h) form code k) h
@@ -110,15 +105,6 @@ fit_test test none fit holds =
       holds_reads = holds;
       ends = fit.ends;
     }
-
--- an accepted test is what the sections say, and passes no limit
-accepted_is : (r : Result LitmusTest Refusal) (test : LitmusTest) → answer_of r ≡ Accepted test → (r ≡ Ok test) × (limit_of test ≡ None)
-accepted_is (Err e) test h = absurd cc
-accepted_is (Ok made) test h = go (limit_of made) refl h
-  where
-    go : (o : Option Shape) → limit_of made ≡ o → limited made o ≡ Accepted test → ◌≡◌ {A = Result LitmusTest Refusal} (Ok made) (Ok test) × (limit_of test ≡ None)
-    go None e h = let same : made ≡ test = cc in (ap Ok same, subst (λ (t : LitmusTest). limit_of t ≡ None) same e)
-    go (Some limit) e h = absurd cc
 
 pub reads_tests : (text : List ℕ) (test : LitmusTest) → Reads text (Accepted test) → IsTest test
 unfolding read_text
