@@ -82,24 +82,32 @@ one_more false true false = refl
 one_more false false true = refl
 one_more false false false = refl
 
-has_iteration_push : (base : ℕ) (order : List Cond) (c : Cond) → has_iteration base (order ++ c ∷ []) ≡ updated (has_iteration base order) c.writer true
+has_iteration_push : (base : ℕ) (order : List Cond) (c : Cond)
+    → has_iteration base (order ++ c ∷ []) ≡ updated (has_iteration base order) c.writer true
 has_iteration_push base order c = λ i t.
     let p : Cond → Bool = λ (d : Cond). d.writer == t in
-    (ap (λ b. (base == t) || b) (list_any-append p order (c ∷ [])) ∙ one_more (base == t) (list_any p order) (c.writer == t)) i
+    (ap (λ b. (base == t) || b) (list_any-append p order (c ∷ []))
+    ∙ one_more (base == t) (list_any p order) (c.writer == t)) i
 
 has_iteration_first : (base : ℕ) → has_iteration base [] ≡ (λ t. base == t)
 has_iteration_first base = λ i t. or-false (base == t) i
 
-pub order_starts : (conds : List Cond) (base : ℕ) → order_of (length conds - 0) conds (has_iteration base []) ≡ plan_from conds base
+pub order_starts : (conds : List Cond) (base : ℕ)
+    → order_of (length conds - 0) conds (has_iteration base []) ≡ plan_from conds base
 order_starts conds base =
     let e : length conds - 0 ≡ length conds = omega arith in
     ap (λ k. order_of k conds (has_iteration base [])) e ∙ ap (order_of (length conds) conds) (has_iteration_first base)
 
-pub order_ends : (more : ℕ) (conds : List Cond) (known : ℕ → Bool) (done whole : List Cond) → find (is_open known) conds ≡ None
-    → done ++ order_of more conds known ≡ whole → done ≡ whole
-order_ends more conds known done whole e h = sym (append-nil done) ∙ ap (λ l. done ++ l) (sym (order_none more conds known e)) ∙ h
+pub order_ends : (more : ℕ) (conds : List Cond) (known : ℕ → Bool) (done whole : List Cond)
+    → find (is_open known) conds ≡ None
+    → done ++ order_of more conds known ≡ whole
+    → done ≡ whole
+order_ends more conds known done whole e h =
+    sym (append-nil done) ∙ ap (λ l. done ++ l) (sym (order_none more conds known e)) ∙ h
 
-pub order_goes_on : (steps i : ℕ) (conds : List Cond) (base : ℕ) (done whole : List Cond) (c : Cond) → i < steps → find (is_open (has_iteration base done)) conds ≡ Some c
+pub order_goes_on : (steps i : ℕ) (conds : List Cond) (base : ℕ) (done whole : List Cond) (c : Cond)
+    → i < steps
+    → find (is_open (has_iteration base done)) conds ≡ Some c
     → done ++ order_of (steps - i) conds (has_iteration base done) ≡ whole
     → (done ++ c ∷ []) ++ order_of (steps - (i + 1)) conds (has_iteration base (done ++ c ∷ [])) ≡ whole
 order_goes_on steps i conds base done whole c lt e h =

@@ -1,5 +1,5 @@
 //! The plan of the picks: where each conjunction begins, and which of its conditions choose, in order.
-ghost use Rattle.std.specs.Prelude.{◌≡◌, ◌==◌, ◌<◌, All, IfOk, IfSome, find, length, slice_index_or};
+ghost use Rattle.std.specs.Prelude.{◌≡◌, ◌==◌, ◌<◌, All, IfOk, find, length, slice_index_or};
 ghost use Rattle.std.specs.List.{list_any};
 ghost use Rattle.outcome_conv.specs.declared.cond.Cond.{Cond};
 ghost use Rattle.outcome_conv.specs.Conditions.{IsKind};

@@ -1,7 +1,7 @@
 -- The conditions in numbers are the atoms' meaning.
-use Rattle.std.proofs.Common.{◌≡◌, ℕ, zero, suc, ◌+◌, ◌*◌, ◌%◌, ◌<◌, ◌≤◌, ◌==◌, Bool, true, false, cond, not, ◌&&◌, ◌||◌, Option, None, Some, List, [], ◌∷◌, ◌++◌, length, filter, take, count_by, slice_get, nat_le, nat_lt, ltb, refl, sym, ap, ◌∙◌, arith, subst, eq-eqb, one-add, zero-add, lt-ltb, le-ltb, le-leb, mul-le-mul_left, mod-eq_of_lt, length-append, ltb-true, append_assoc, inl, inr, ◌⊎◌, All, ◌/◌, ◌^◌}
+use Rattle.std.proofs.Common.{◌≡◌, ℕ, zero, suc, ◌+◌, ◌*◌, ◌%◌, ◌<◌, ◌≤◌, ◌==◌, Bool, true, false, cond, not, ◌&&◌, ◌||◌, Option, None, Some, List, [], ◌∷◌, ◌++◌, length, filter, take, count_by, slice_get, nat_le, nat_lt, ltb, refl, sym, ap, ◌∙◌, arith, subst, eq-eqb, one-add, zero-add, lt-ltb, le-ltb, le-leb, mul-le-mul_left, mod-eq_of_lt, length-append, ltb-true, append_assoc, inl, inr, ◌⊎◌, All}
 use Rattle.std.proofs.lemmas.Bool.{and_left, and_from, and_parts, cases_lt, eqb-true, leb-true, lt-leb, not_from_false, not_from_true}
-use Rattle.std.proofs.lemmas.Nat.{mod-mul-add, mod_below}
+use Rattle.std.proofs.lemmas.Nat.{mod-mul-add}
 use Rattle.std.proofs.lemmas.List.{length-map}
 use Rattle.std.proofs.lemmas.List.Sums.{sum_by-cons}
 use Rattle.std.proofs.lemmas.List.Elements.{All-from_recursion}

@@ -5,4 +5,5 @@ use Rattle.heuristic.proofs.plan.first_open.Given as goal
 
 abbrev pub invariant-loop-cond : goal.invariant-loop-cond
 invariant-loop-cond l =
-    find (is_open (has_iteration l.base l.order)) (drop l.cond-index l.conds) ≡ find (is_open (has_iteration l.base l.order)) l.conds
+    find (is_open (has_iteration l.base l.order)) (drop l.cond-index l.conds)
+    ≡ find (is_open (has_iteration l.base l.order)) l.conds
