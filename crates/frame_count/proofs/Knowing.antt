@@ -20,7 +20,7 @@ use Rattle.frame_count.specs.declared.stretch.Stretch.{Stretch}
 use Rattle.frame_count.proofs.Along.{along_false, along_true}
 use Rattle.frame_count.proofs.ByKind.{test_holds}
 use Rattle.frame_count.proofs.Conjoining.{any_one}
-use Rattle.frame_count.proofs.Reaches.{left_by_reader, left_row, moves, stays}
+use Rattle.frame_count.proofs.Reaches.{left_by_reader, left_row, left_settled, moves, stays}
 use Rattle.frame_count.proofs.Thresholds.{along_within, and_true}
 
 none_pass : (p : ℕ → Bool) (at : ℕ) → ((i : ℕ) → i < 64 → p (at + i) ≡ false) → 0 ≡ mask_along p at 64
@@ -140,3 +140,12 @@ is_row false e = sym e
 
 pub first_row : (xs : List Stretch) (d e : Stretch) → 0 < length xs → not (get_or xs 0 d).row ≡ false → (get_or xs 0 e).row ≡ true
 first_row xs d e some row = ap (λ (s : Stretch). s.row) (get_or_default xs 0 e d some) ∙ is_row (get_or xs 0 d).row row
+
+-- where nothing is left to test of the one conjunction, its stretch decides
+pub settled_decides : (c : Conditions) (logs : List Values) (frame : List ℕ) (s : Stretch) (n m : ℕ) → length c.ends ≡ 1 → Leaves n logs frame (conjunction_of c.ends c.conds 0) s → m < n
+    → (s.row ≡ false) × (s.own ≡ false) → is_within s m ≡ frame_holds c logs (with_last frame m)
+settled_decides c logs frame s n m one leaves lt settled =
+    sym (any_one (list_all (holds_along logs frame m)) c.ends c.conds one
+    ∙ leaves m lt
+    ∙ ap (λ b. is_within s m && b) (left_settled logs frame s m (conjunction_of c.ends c.conds 0) settled.0 settled.1)
+    ∙ and_true (is_within s m))

@@ -40,7 +40,7 @@ fn less_bits(value: u64x8, bound: u64x8) -> u64
 
 /// Which values are at least their bounds, lane by lane.
 #[inline(always)]
-fn least_bits(value: u64x8, bound: u64x8) -> u64
+fn at_least_bits(value: u64x8, bound: u64x8) -> u64
     requires value { length value ≡ 8 }
     requires bound { length bound ≡ 8 }
     ensures { result ≡ mask_l (zip2 nat_le bound value) }
@@ -140,7 +140,7 @@ fn less_word(values: &[u64], bound: u64, at: usize) -> u64
 }
 
 /// Which of sixty-four values are at least the bound.
-fn least_word(values: &[u64], bound: u64, at: usize) -> u64
+fn at_least_word(values: &[u64], bound: u64, at: usize) -> u64
     requires at { at + 64 ≤ 100000 }
     requires room { at + 64 ≤ length values.now }
     ensures { result ≡ mask_along (λ m. nat_le bound (slice_index values.now m)) at 64 }
@@ -150,7 +150,7 @@ fn least_word(values: &[u64], bound: u64, at: usize) -> u64
         |i: usize| -> u64
             requires { i + 8 ≤ length values.now }
             ensures { result ≡ mask_along (λ m. nat_le bound (slice_index values.entry.now m)) i 8 }
-        { least_bits(value_lanes(values, i), u64x8::splat(bound)) },
+        { at_least_bits(value_lanes(values, i), u64x8::splat(bound)) },
     )
 }
 
@@ -186,7 +186,7 @@ fn own_less_word(values: &[u64], k: u64, a: u64, at: usize) -> u64
 }
 
 /// Which of sixty-four values are at least `k * m + a`, each by its own iteration `m`.
-fn own_least_word(values: &[u64], k: u64, a: u64, at: usize) -> u64
+fn own_at_least_word(values: &[u64], k: u64, a: u64, at: usize) -> u64
     requires line { (1 ≤ k) × (k ≤ 128) × (1 ≤ a) × (a ≤ 128) }
     requires at { at + 64 ≤ 100000 }
     requires room { at + 64 ≤ length values.now }
@@ -197,7 +197,7 @@ fn own_least_word(values: &[u64], k: u64, a: u64, at: usize) -> u64
         |i: usize| -> u64
             requires { (1 ≤ k) × (1 ≤ a) × (k * (i + 8) + a < 2 ^ 64) × (i + 8 ≤ length values.now) }
             ensures { result ≡ mask_along (λ m. nat_le (k * m + a) (slice_index values.entry.now m)) i 8 }
-        { least_bits(value_lanes(values, i), line_lanes(k, a, i)) },
+        { at_least_bits(value_lanes(values, i), line_lanes(k, a, i)) },
     )
 }
 
@@ -280,11 +280,11 @@ pub(crate) fn values_word(kind: CondKind, values: &[u64], bound: u64, at: usize)
 {
     match kind {
         CondKind::AtLeast { k, a } => {
-            let least = least_word(values, bound, at);
-            if least == 0 {
+            let at_least = at_least_word(values, bound, at);
+            if at_least == 0 {
                 0
             } else {
-                least & residue_word(values, k, a, at)
+                at_least & residue_word(values, k, a, at)
             }
         }
         CondKind::Below { .. } => less_word(values, bound, at),
@@ -301,11 +301,11 @@ pub(crate) fn own_word(kind: CondKind, values: &[u64], at: usize) -> u64
 {
     match kind {
         CondKind::AtLeast { k, a } => {
-            let least = own_least_word(values, k, a, at);
-            if least == 0 {
+            let at_least = own_at_least_word(values, k, a, at);
+            if at_least == 0 {
                 0
             } else {
-                least & residue_word(values, k, a, at)
+                at_least & residue_word(values, k, a, at)
             }
         }
         CondKind::Below { k } => own_less_word(values, k, 1, at),

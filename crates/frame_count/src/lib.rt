@@ -25,7 +25,6 @@ mod known;
 mod lanes;
 mod laws;
 mod numbers;
-mod one;
 mod pieces;
 mod reach;
 mod row;

@@ -110,8 +110,7 @@ pub(crate) fn hull(stretches: &[Stretch]) -> Stretch
         own: false,
     };
     for stretch in stretches {
-        hull.from = hull.from.min(stretch.from);
-        hull.to = hull.to.max(stretch.to);
+        hull = hull.span(*stretch);
     }
     hull
 }

@@ -1,17 +1,17 @@
 //! The count of a row: all iterations of the last thread, with those of the other threads fixed.
-ghost use Rattle.std.specs.Prelude.{◌≡◌, ℕ, ◌+◌, ◌-◌, ◌<◌, ◌≤◌, ◌==◌, length, count_by, slice_index_or, true, All};
+ghost use Rattle.std.specs.Prelude.{◌≡◌, ℕ, ◌+◌, ◌-◌, ◌<◌, ◌≤◌, ◌==◌, length, count_by, slice_index_or, true, false, All, List};
 ghost use Rattle.std.specs.List.{list_all, range_with_len};
 ghost use Rattle.x86_subset.specs.Conjunctions.{conjunction_of};
-ghost use Rattle.load_log.specs.Values.{value_at};
+ghost use Rattle.load_log.specs.Values.{Values, value_at};
 ghost use Rattle.outcome_conv.specs.Conds.{conds_hold};
 ghost use Rattle.frame_count.specs.Count.{IsFrameOf, IsGood, IsOfLogs, frame_holds, with_last};
 ghost use Rattle.frame_count.specs.Known.{IsKnown, Tells};
 ghost use Rattle.frame_count.specs.declared.stretch.Stretch.{Stretch};
 ghost use Rattle.frame_count.specs.Row.{Leaves, holds_along, left_along, mask_along};
 
+use crate::at_frame::holds_at;
 use crate::known::Known;
 use crate::lanes::{bound, own_word, values_word};
-use crate::one::{is_left, some_at};
 use crate::reach::{hull, reaches};
 use crate::stretch::Stretch;
 use load_log::Logs;
@@ -31,6 +31,24 @@ fn cond_word(cond: &Cond, logs: &Logs, frame: &Frame, at: usize) -> u64
     } else {
         let bound = bound(cond.kind, frame.at(cond.writer as usize));
         values_word(cond.kind, values, bound, at)
+    }
+}
+
+/// Whether a stretch leaves a condition to test.
+#[inline(always)]
+fn is_left(cond: &Cond, frame: &Frame, stretch: Stretch) -> bool
+    requires { 1 ≤ length frame.now }
+    ensures left { result ≡ true → (logs : List Values) (m : ℕ) → left_along logs frame.now stretch m cond.now ≡ holds_along logs frame.now m cond.now }
+    ensures passed { result ≡ false → (logs : List Values) (m : ℕ) → left_along logs frame.now stretch m cond.now ≡ true }
+    ensures reader { result ≡ true → (cond.now.reader == length frame.now - 1) ≡ true }
+{
+    let last = frame.len() - 1;
+    if cond.reader as usize != last {
+        false
+    } else if cond.writer as usize == last {
+        stretch.own
+    } else {
+        stretch.row
     }
 }
 
@@ -94,24 +112,15 @@ fn some_word(conds: &Conds, logs: &Logs, frame: &Frame, stretches: &[Stretch], a
 }
 
 /// At how many iterations from `from` up to and without `to` the conditions of some conjunction hold, one by one.
-fn count_singly(
-    conds: &Conds,
-    logs: &Logs,
-    frame: &Frame,
-    stretches: &[Stretch],
-    from: usize,
-    to: usize,
-) -> u64
+fn count_singly(conds: &Conds, logs: &Logs, frame: &Frame, from: usize, to: usize) -> u64
     requires frame { (n : ℕ) × (from ≤ to) × (to ≤ n) × IsFrameOf logs.now.logs n frame.now }
     requires names { All (IsOfLogs logs.now.logs) conds.now.conds }
-    requires each { length conds.now.ends ≤ length stretches.now }
-    requires stretches { (c : ℕ) (d : Stretch) → c < length conds.now.ends → Leaves to logs.now.logs frame.now (conjunction_of conds.now.ends conds.now.conds c) (slice_index_or stretches.now c d) }
     ensures { result ≡ count_by (λ m. frame_holds conds.now logs.now.logs (with_last frame.now m)) (range_with_len from (to - from)) }
 {
     let mut total = 0u64;
     let mut at = from;
     while at < to {
-        total += some_at(conds, logs, frame, stretches, at as u32) as u64;
+        total += holds_at(conds, logs, frame, at as u32) as u64;
         at += 1;
     }
     total
@@ -138,10 +147,11 @@ fn count_between(
         total += some_word(conds, logs, frame, stretches, at).count_ones() as u64;
         at += 64;
     }
-    total + count_singly(conds, logs, frame, stretches, at, to)
+    total + count_singly(conds, logs, frame, at, to)
 }
 
-/// The same of a row with these stretches, where one of them is.
+/// The same of a row with these stretches: where nothing is left to test of the one conjunction, those of its stretch, and else those between the
+/// first and the last that stand in one.
 pub(crate) fn count_within(
     conds: &Conds,
     logs: &Logs,
@@ -156,6 +166,9 @@ pub(crate) fn count_within(
     requires stretches { (c : ℕ) (d : Stretch) → c < length conds.now.ends → Leaves to logs.now.logs frame.now (conjunction_of conds.now.ends conds.now.conds c) (slice_index_or stretches.now c d) }
     ensures { result ≡ count_by (λ m. frame_holds conds.now logs.now.logs (with_last frame.now m)) (range_with_len from (to - from)) }
 {
+    if conds.conjunctions() == 1 && stretches[0].is_settled() {
+        return stretches[0].count(from, to);
+    }
     let hull = hull(&stretches[..conds.conjunctions()]);
     let first = hull.from.max(from);
     let end = hull.to.min(to);

@@ -1,5 +1,6 @@
 //! Stretches: the neighbouring iterations of the last thread to which a condition leaves a row of frames.
-ghost use Rattle.std.specs.Prelude.{◌≡◌, ℕ, ◌+◌, ◌<◌, ◌≤◌, ◌^◌, ◌%◌, ◌==◌, ◌&&◌, ◌||◌, ◌*◌, Bool, false, not, true, length, nat_le, nat_lt, slice_index};
+ghost use Rattle.std.specs.Prelude.{◌≡◌, ℕ, ◌+◌, ◌<◌, ◌≤◌, ◌^◌, ◌%◌, ◌==◌, ◌&&◌, ◌||◌, ◌*◌, ◌-◌, Bool, count_by, false, not, true, length, nat_le, nat_lt, slice_index};
+ghost use Rattle.std.specs.List.{range_with_len};
 ghost use Rattle.std.specs.List.Sorted.{IsNonDecreasing};
 ghost use Rattle.outcome_conv.specs.Conditions.{IsKind};
 ghost use Rattle.outcome_conv.specs.Conds.{kind_holds};
@@ -192,6 +193,31 @@ impl Stretch {
         ensures { result ≡ is_within self m }
     {
         self.from <= m && m < self.to
+    }
+
+    /// The iterations from the first to the last that stand in one of both. One that is empty has no say.
+    pub(crate) fn span(self, other: Stretch) -> Stretch
+        ensures mine { (m : ℕ) → is_within self m ≡ true → is_within result m ≡ true }
+        ensures theirs { (m : ℕ) → is_within other m ≡ true → is_within result m ≡ true }
+    {
+        if other.is_empty() {
+            return self;
+        }
+        Stretch {
+            from: self.from.min(other.from),
+            to: self.to.max(other.to),
+            ..self
+        }
+    }
+
+    /// How many of the iterations from `from` up to and without `to` are in it.
+    pub(crate) fn count(self, from: usize, to: usize) -> u64
+        requires { from ≤ to }
+        ensures { result ≡ count_by (is_within self) (range_with_len from (to - from)) }
+    {
+        let first = self.from.max(from);
+        let end = self.to.min(to);
+        if first < end { (end - first) as u64 } else { 0 }
     }
 
     /// Whether no iteration is in it.
