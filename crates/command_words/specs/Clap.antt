@@ -1,4 +1,5 @@
--- The command that clap reads the words of `run` and `replay` with.
+-- The command that clap reads the words of `run` and `replay` with: rules as the crate `clap` has them, and the options
+-- are this project's own.
 use Rattle.std.specs.Prelude.{Some, List, [], ◌∷◌, map, true, codes}
 use Rattle.clap.specs.Simple.{App, new_rule, new_shape}
 use Rattle.clap.specs.Walk.{Rule}

@@ -1,4 +1,5 @@
--- The words of the command line, and the command that they name. This project's own; the two ways to write an option are GNU's.
+-- The words of the command line, and the command that they name. This project's own; the two ways to write an option
+-- are GNU's.
 use Rattle.std.specs.Prelude.{◌==◌, ◌&&◌, ◌^◌, ℕ, Bool, true, false, not, List, [], ◌∷◌}
 use Rattle.std.specs.Prelude.{length, drop, Option, Some, None, if◌then◌else◌, nat_le, nat_lt, codes}
 use Rattle.std.specs.Prelude.{find, option_map, option_and_then}

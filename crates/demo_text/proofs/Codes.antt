@@ -13,7 +13,8 @@ use Rattle.x86_subset.specs.Form.{capital, register_of, fill, fit, meaning}
 use Rattle.litmus_reader.specs.Answer.{Refusal, ◌>>=◌}
 use Rattle.litmus_reader.specs.Initial.{judge, items}
 use Rattle.litmus_reader.specs.Rows.{no_code, body_of, threads_after, columns_at, cell_at, cells_at, row_of, rows_at}
-use Rattle.litmus_reader.specs.Condition.{Joined, AtTerm, outermost, behind_close, section_at, quantifier_at, in_atom, at_term, behind_term, expression_at}
+use Rattle.litmus_reader.specs.Condition.{Joined, behind_close, section_at, quantifier_at}
+use Rattle.litmus_reader.specs.Expression.{AtTerm, outermost, in_atom, at_term, behind_term, expression_at}
 use Rattle.litmus_reader.specs.Reading.{test_of, tokens_at}
 use Rattle.demo_text.specs.declared.draw.Draw.{Draw}
 use Rattle.demo_text.specs.declared.line.Line.{Line}

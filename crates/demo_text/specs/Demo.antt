@@ -1,5 +1,6 @@
--- The demo's text: a litmus test of herdtools' X86 format in which two to four threads stand in a ring. Each thread stores to its
--- own location and loads the next thread's. Which test it is is drawn by the words of Xoshiro256++; the draw is this project's own.
+-- The demo's text: a litmus test of herdtools' X86 format in which two to four threads stand in a ring. Each thread
+-- stores to its own location and loads the next thread's. Which test it is is drawn by the words of Xoshiro256++; the
+-- draw is this project's own.
 use Rattle.std.specs.Prelude.{ℕ, ◌+◌, ◌/◌, ◌%◌, ◌==◌, Bool, not, List, [], ◌∷◌, ◌++◌, length, map, codes, decimal, if◌then◌else◌}
 use Rattle.std.specs.List.{range_with_len}
 use Rattle.store_buffer.specs.Generator.{generator_word}
@@ -90,7 +91,8 @@ demo_name k = codes "DEMO" ++ decimal k
 
 abbrev pub text_by : List ℕ → List Draw → List ℕ
 text_by name ds =
-    codes "X86 " ++ (name ++ (codes "\n{ }\n" ++ (line_text Columns ds ++ (line_text First ds ++ (line_text Middle ds ++ (line_text Last ds ++ line_text Condition ds))))))
+    codes "X86 " ++ (name ++ (codes "\n{ }\n" ++ (line_text Columns ds ++ (line_text First ds
+    ++ (line_text Middle ds ++ (line_text Last ds ++ line_text Condition ds))))))
 
 abbrev pub demo_text_of : ℕ → List ℕ
 demo_text_of k = text_by (demo_name k) (draws_of k)

@@ -1,4 +1,5 @@
--- What holds of each demo text.
+-- Law: each demo text reads as a test of herdtools' X86 format whose frames can be counted. What is asked of it is this
+-- project's own.
 use Rattle.std.specs.Prelude.{◌≡◌, ℕ, ◌<◌, ◌≤◌, ◌^◌, List, length}
 use Rattle.std.specs.Str.{IsAscii}
 use Rattle.x86_subset.specs.Test.{LitmusTest}

@@ -1,6 +1,6 @@
--- Laws: of a test whose conjunctions all have cycles `run` and `replay` report that nothing was seen. The runs are those of
--- x86-TSO (Sewell, Sarkar, Owens, Zappa Nardelli and Myreen, CACM 2010); that cycles forbid an outcome is after Alglave,
--- Maranget and Tautschnig ("Herding cats", TOPLAS 2014).
+-- Laws: of a test whose conjunctions all have cycles `run` and `replay` report that nothing was seen. The runs are
+-- those of x86-TSO (Sewell, Sarkar, Owens, Zappa Nardelli and Myreen, CACM 2010); that cycles forbid an outcome is
+-- after Alglave, Maranget and Tautschnig ("Herding cats", TOPLAS 2014).
 use Rattle.std.specs.Prelude.{◌≡◌, ◌⊎◌, ℕ, ◌<◌, List, ◌++◌, Some, Vec, length, take}
 use Rattle.std.specs.Global.{Global}
 use Rattle.x86_subset.specs.Test.{LitmusTest}
@@ -67,7 +67,8 @@ ForbiddenVerdictsForbid =
     → IsVerdict checked (Forbidden cycles)
     → IsForbidden (read_test checked.test)
 
--- the words of a call of `perple` ask for this job, `out` has these bytes before it, and the source the text of this test
+-- the words of a call of `perple` ask for this job, `out` has these bytes before it, and the source the text of this
+-- test
 pub record IsCall (words : List (List ℕ)) (old out_old : View) (job : Job) (before : List ℕ) (test : LitmusTest)
     : Type 0 where
   pub asks : AsksFor words job

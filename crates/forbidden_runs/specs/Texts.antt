@@ -1,5 +1,5 @@
--- The report that nothing was seen, line by line, and the tests that always get it. The counts are PerpLE's (Melissaris,
--- Markakis, Shaw and Martonosi, MICRO 2020); the texts are this project's own.
+-- The report that nothing was seen, line by line, and the tests that always get it. The counts are PerpLE's
+-- (Melissaris, Markakis, Shaw and Martonosi, MICRO 2020); the texts are this project's own.
 use Rattle.std.specs.Prelude.{ℕ, List, ◌++◌, length, codes}
 use Rattle.x86_subset.specs.Test.{LitmusTest}
 use Rattle.profile_check.specs.Profile.{CheckedTest}

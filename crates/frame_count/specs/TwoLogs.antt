@@ -1,4 +1,4 @@
--- Two logs of as many columns, and conditions over them: what the tests count over.
+-- Two logs of as many columns, and conditions over them: what the tests count over. This project's own.
 use Rattle.std.specs.Prelude.{◌≡◌, ℕ, ◌*◌, ◌<◌, List, All, length}
 use Rattle.load_log.specs.Values.{Values}
 use Rattle.outcome_conv.specs.declared.cond.Cond.{Cond}

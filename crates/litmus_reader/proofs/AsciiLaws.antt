@@ -1,38 +1,34 @@
 -- A text that is read as a test names it and its locations in ASCII.
-use Rattle.std.proofs.Common.{◌≡◌, ℕ, zero, suc, ◌+◌, ◌<◌, Bool, true, false, ◌&&◌, cond, List, [], ◌∷◌, ◌++◌, take, drop, Option, Some, None, Result, Ok, Err, refl, ap, subst, arith}
-use Rattle.std.specs.Prelude.{◌==◌, ◌^◌, All, IfOk, slice_index, nat_lt, is_none, length}
+use Rattle.std.proofs.Common.{◌≡◌, ℕ, zero, suc, ◌+◌, ◌<◌, Bool, true, false, ◌&&◌, cond, List, [], ◌∷◌, take, drop, Option, Some, None, Result, Ok, Err, refl, subst, arith}
+use Rattle.std.specs.Prelude.{◌==◌, ◌^◌, All, IfOk, slice_index, nat_lt, is_none}
 use Rattle.std.specs.Str.{IsAscii}
-use Rattle.std.specs.List.{list_all, prefix_len, slice_split, onto_first}
+use Rattle.std.specs.List.{list_all, prefix_len}
 use Rattle.std.proofs.Math.Numerals.{one-add}
 use Rattle.std.proofs.lemmas.Bool.{and_parts, false≢true}
 use Rattle.std.proofs.lemmas.Bool.Decides.{nat_tests}
 use Rattle.std.proofs.lemmas.List.Elements.{All-nil, All-push}
-use Rattle.x86_subset.specs.declared.cell.InstrError.{InstrError}
 use Rattle.x86_subset.specs.declared.cell.InstrError.TheVariants.{Number as TooLarge}
 use Rattle.x86_subset.specs.declared.form.Slot.{Slot}
 use Rattle.x86_subset.specs.declared.form.Slot.TheVariants.{Mark, Maybe, Word, Location, Register, Any, Small, Thread}
 use Rattle.x86_subset.specs.declared.instr.Reg.{Reg}
-use Rattle.x86_subset.specs.declared.test.Shape.{Shape}
 use Rattle.x86_subset.specs.declared.token.Cut.{Cut}
 use Rattle.x86_subset.specs.declared.token.TokenKind.{TokenKind}
 use Rattle.x86_subset.specs.declared.token.TokenKind.TheVariants.{Name, Number, Left, Right, LeftSquare, RightSquare, LeftBrace, RightBrace, Semi, Bar, Comma, Colon, Equal, Dollar, Tilde, Both, Either, Other}
 use Rattle.x86_subset.specs.Test.{Code, LitmusTest}
-use Rattle.x86_subset.specs.Shape.{limit_of}
 use Rattle.x86_subset.specs.Token.{is_blank, is_digit, is_letter, is_head, is_tail, is_pair, sign, close_end, nothing, token, comment_cut, pair_cut, cut_at, Spot, after_byte, Lexeme, put, lex}
 use Rattle.x86_subset.specs.Form.{kind_code, is, is_keyword, register_of, value, Found, nothing_found, with_register, fill, may_miss, fit, Row, whole, meaning}
 use Rattle.x86_subset.specs.Cell.{Form, Blank, Fence, StoreNumber, StoreRegister, Load, Constant, Exchange, Threads, cell_rows, is_small, judged, parse, place_in, having_by, having, code_after, locations_after}
-use Rattle.litmus_reader.specs.declared.kind.LitmusKind.TheVariants.{NotX86, Column}
-use Rattle.litmus_reader.specs.Answer.{Refusal, Accepted, refuse, ◌>>=◌, line_at, last_line}
-use Rattle.litmus_reader.specs.Front.{words, is_printed, is_x86, name_of, Rest, named_or_not, rest_at, line_in, behind_line, first_line, head}
+use Rattle.litmus_reader.specs.declared.kind.LitmusKind.TheVariants.{NotX86}
+use Rattle.litmus_reader.specs.Answer.{Accepted, refuse}
+use Rattle.litmus_reader.specs.Front.{words, is_printed, is_x86, name_of, Rest, named_or_not, rest_at, line_in, behind_line, first_line}
 use Rattle.x86_subset.specs.Token.{after_bytes, start}
-use Rattle.litmus_reader.specs.Initial.{ends_item, judge, items}
-use Rattle.litmus_reader.specs.Rows.{cells, are_columns, no_code, columns_at, body_of, threads_after, ends_code, acted, act, cell_at, cells_at, row_of, rows_at}
-use Rattle.litmus_reader.specs.Condition.{section_at, quantifier_at, expression_at, AtTerm, outermost}
-use Rattle.litmus_reader.specs.Reading.{test_of, tokens_at, sections_at, limited, answer_of, read_text}
+use Rattle.litmus_reader.specs.Rows.{body_of, threads_after}
+use Rattle.litmus_reader.specs.Reading.{sections_at, read_text}
 use Rattle.litmus_reader.specs.declared.kind.LitmusError.{LitmusError}
 use Rattle.litmus_reader.specs.Answered.{IfAnswered, HasAsciiNames, NamesAreAscii}
-use Rattle.litmus_reader.proofs.ReadingLaws.{one_reading}
-use Rattle.litmus_reader.proofs.Bound.{bound, ok_is}
+use Rattle.litmus_reader.proofs.ReadingLaws.{accepted_is, one_reading}
+use Rattle.litmus_reader.proofs.RowsKeep.{Are, sections_keep}
+use Rattle.litmus_reader.proofs.Bound.{ok_is}
 
 -- ---- bytes
 
@@ -59,7 +55,8 @@ ascii_prefix : (p : ℕ → Bool) → ((b : ℕ) → p b ≡ true → b < 128) �
 ascii_prefix p h [] = ascii_nil
 ascii_prefix p h (b ∷ bs) = go (ascii_prefix p h bs) (p b) refl
   where
-    go : IsAscii (take (prefix_len p bs) bs) → (v : Bool) → p b ≡ v → IsAscii (take (cond v (1 + prefix_len p bs) 0) (b ∷ bs))
+    go : IsAscii (take (prefix_len p bs) bs) → (v : Bool) → p b ≡ v
+        → IsAscii (take (cond v (1 + prefix_len p bs) 0) (b ∷ bs))
     go k true e = rw one-add (ascii_cons b (take (prefix_len p bs) bs) (h b e) k)
     go k false e = ascii_nil
 
@@ -81,12 +78,7 @@ abbrev IsPlain : Lexeme → Type 0
 IsPlain t = is Name t ≡ true → IsAscii t.spelled
 
 abbrev ArePlain : List Lexeme → Type 0
-ArePlain [] = Unit {0}
-ArePlain (t ∷ ts) = IsPlain t × ArePlain ts
-
-abbrev AreAllPlain : List (List Lexeme) → Type 0
-AreAllPlain [] = Unit {0}
-AreAllPlain (ts ∷ more) = ArePlain ts × AreAllPlain more
+ArePlain ts = Are IsPlain ts
 
 -- a token of this kind and these bytes, if there is one, is ASCII where it is a name
 abbrev IsPlainKind : Option TokenKind → List ℕ → Type 0
@@ -96,7 +88,8 @@ IsPlainKind (Some kind) spelled = (kind_code kind == 0) ≡ true → IsAscii spe
 abbrev IsPlainCut : ℕ → List ℕ → Cut → Type 0
 IsPlainCut b bs c = IsPlainKind c.kind (b ∷ take c.more bs)
 
-other_kind : (v : Bool) (k l : TokenKind) → (kind_code k == 0) ≡ false → (kind_code l == 0) ≡ false → (kind_code (cond v k l) == 0) ≡ false
+other_kind : (v : Bool) (k l : TokenKind) → (kind_code k == 0) ≡ false → (kind_code l == 0) ≡ false
+    → (kind_code (cond v k l) == 0) ≡ false
 other_kind true k l h m = h
 other_kind false k l h m = m
 
@@ -122,14 +115,17 @@ cut_plain : (b : ℕ) (bs : List ℕ) → IsPlainCut b bs (cut_at b bs)
 unfolding cut_at
 cut_plain b bs = go (is_blank b) (is_head b) refl (is_digit b) (is_pair b bs)
   where
-    go : (v w : Bool) → is_head b ≡ w → (x y : Bool) → IsPlainCut b bs (cond v (nothing 0) (cond w (token Name (prefix_len is_tail bs)) (cond x (token Number (prefix_len is_digit bs)) (cond y (pair_cut b bs) (token (sign b) 0)))))
+    go : (v w : Bool) → is_head b ≡ w → (x y : Bool)
+        → IsPlainCut b bs (cond v (nothing 0) (cond w (token Name (prefix_len is_tail bs)) (cond x (token Number (prefix_len is_digit bs)) (cond y (pair_cut b bs) (token (sign b) 0)))))
     go true w e x y = tt
-    go false true e x y = λ k. ascii_cons b (take (prefix_len is_tail bs) bs) (head_below b e) (ascii_prefix is_tail tail_below bs)
+    go false true e x y =
+        λ k. ascii_cons b (take (prefix_len is_tail bs) bs) (head_below b e) (ascii_prefix is_tail tail_below bs)
     go false false e true y = λ k. absurd (false≢true k)
     go false false e false true = pair_plain b bs
     go false false e false false = λ k. let n = sign_is_no_name b in absurd cc
 
-put_plain : (o : Option TokenKind) (spelled : List ℕ) (at : Spot) (ts : List Lexeme) → IsPlainKind o spelled → ArePlain ts → ArePlain (put o spelled at ts)
+put_plain : (o : Option TokenKind) (spelled : List ℕ) (at : Spot) (ts : List Lexeme) → IsPlainKind o spelled
+    → ArePlain ts → ArePlain (put o spelled at ts)
 put_plain None spelled at ts h k = k
 put_plain (Some kind) spelled at ts h k = (h, k)
 
@@ -139,19 +135,6 @@ lex_plain zero at [] = tt
 lex_plain (suc skip) at [] = tt
 lex_plain (suc skip) at (b ∷ bs) = lex_plain skip (after_byte at b) bs
 lex_plain zero at (b ∷ bs) = put_plain (cut_at b bs).kind (b ∷ take (cut_at b bs).more bs) at _ (cut_plain b bs) (lex_plain (cut_at b bs).more (after_byte at b) bs)
-
-plain-append : (a b : List Lexeme) → ArePlain a → ArePlain b → ArePlain (a ++ b)
-plain-append [] b h k = k
-plain-append (t ∷ a) b h k = (h.0, plain-append a b h.1 k)
-
-plain-split : (ts : List Lexeme) → ArePlain ts → AreAllPlain (slice_split (is Bar) ts)
-plain-split [] h = (tt, tt)
-plain-split (t ∷ ts) h = go (is Bar t) (slice_split (is Bar) ts) (plain-split ts h.1)
-  where
-    go : (v : Bool) (parts : List (List Lexeme)) → AreAllPlain parts → AreAllPlain (cond v ([] ∷ parts) (onto_first t parts))
-    go true parts k = (tt, k)
-    go false [] k = ((h.0, tt), tt)
-    go false (p ∷ ps) k = ((h.0, k.0), k.1)
 
 -- ---- forms
 
@@ -166,7 +149,8 @@ kept true f g e h = names_ascii f g e h
 kept false f g e h = absurd cc
 
 -- a token that fills a slot
-fill_plain : (s : Slot) (t : Lexeme) (f g : Found) → fill s t f ≡ Some g → IsPlain t → IsAscii f.location → IsAscii g.location
+fill_plain : (s : Slot) (t : Lexeme) (f g : Found) → fill s t f ≡ Some g → IsPlain t → IsAscii f.location
+    → IsAscii g.location
 unfolding fill
 fill_plain (Mark kind) t f g e h k = kept (is kind t) f g e k
 fill_plain (Maybe kind) t f g e h k = kept (is kind t) f g e k
@@ -187,23 +171,28 @@ fill_plain Small t f g e h k = kept (is Number t && nat_lt (value t) (2 ^ 32)) (
 fill_plain Thread t f g e h k = kept (is Number t && nat_lt (value t) (2 ^ 32)) (record f { thread = value t }) g e k
 
 -- what follows once a token fills a slot or does not
-abbrev fitted : List Slot → Lexeme → List Lexeme → Found → Bool → Option Found → Result (Found × List Lexeme) (List Lexeme)
-fitted ss t ts f v o = elim o [ Some more ↦ fit ss ts more | None ↦ elim v [ true ↦ fit ss (t ∷ ts) f | false ↦ Err (t ∷ ts) ] ]
+abbrev fitted : List Slot → Lexeme → List Lexeme → Found → Bool → Option Found
+    → Result (Found × List Lexeme) (List Lexeme)
+fitted ss t ts f v o =
+    elim o [ Some more ↦ fit ss ts more | None ↦ elim v [ true ↦ fit ss (t ∷ ts) f | false ↦ Err (t ∷ ts) ] ]
 
 same_pair : (x y : Found × List Lexeme) → ◌≡◌ {A = Result (Found × List Lexeme) (List Lexeme)} (Ok x) (Ok y) → x ≡ y
 same_pair x y e = cc
 
-fit_plain : (ss : List Slot) (ts : List Lexeme) (f : Found) (x : Found × List Lexeme) → fit ss ts f ≡ Ok x → ArePlain ts → IsAscii f.location → IsAscii x.0.location
+fit_plain : (ss : List Slot) (ts : List Lexeme) (f : Found) (x : Found × List Lexeme) → fit ss ts f ≡ Ok x → ArePlain ts
+    → IsAscii f.location → IsAscii x.0.location
 unfolding fit
 fit_plain [] ts f x e h k = subst (λ (x : Found × List Lexeme). IsAscii x.0.location) (same_pair (f, ts) x e) k
 fit_plain (s ∷ ss) [] f x e h k = go (λ m. fit_plain ss [] f x m tt k) (may_miss s) e
   where
-    go : (fit ss [] f ≡ Ok x → IsAscii x.0.location) → (v : Bool) → cond v (fit ss [] f) (Err []) ≡ Ok x → IsAscii x.0.location
+    go : (fit ss [] f ≡ Ok x → IsAscii x.0.location) → (v : Bool) → cond v (fit ss [] f) (Err []) ≡ Ok x
+        → IsAscii x.0.location
     go more true e = more e
     go more false e = absurd cc
 fit_plain (s ∷ ss) (t ∷ ts) f x e h k = go (λ g m n. fit_plain ss ts g x m h.1 (fill_plain s t f g n h.0 k)) (λ m. fit_plain ss (t ∷ ts) f x m h k) (fill s t f) refl (may_miss s) e
   where
-    go : ((g : Found) → fit ss ts g ≡ Ok x → fill s t f ≡ Some g → IsAscii x.0.location) → (fit ss (t ∷ ts) f ≡ Ok x → IsAscii x.0.location)
+    go : ((g : Found) → fit ss ts g ≡ Ok x → fill s t f ≡ Some g → IsAscii x.0.location)
+        → (fit ss (t ∷ ts) f ≡ Ok x → IsAscii x.0.location)
         → (o : Option Found) → fill s t f ≡ o → (v : Bool) → fitted ss t ts f v o ≡ Ok x → IsAscii x.0.location
     go filled missed (Some g) n v e = filled g e n
     go filled missed None n true e = missed e
@@ -218,14 +207,17 @@ AllMean P (row ∷ rows) = ((f : Found) → IsAscii f.location → P (row.means 
 abbrev meant : {A : Type 0} → Row A → List (Row A) → List Lexeme → Option Found → Option A
 meant row rows ts o = elim o [ Some found ↦ Some (row.means found) | None ↦ meaning rows ts ]
 
-meaning_plain : {A : Type 0} (P : A → Type 0) (rows : List (Row A)) (ts : List Lexeme) (a : A) → AllMean P rows → ArePlain ts → meaning rows ts ≡ Some a → P a
+meaning_plain : {A : Type 0} (P : A → Type 0) (rows : List (Row A)) (ts : List Lexeme) (a : A) → AllMean P rows
+    → ArePlain ts → meaning rows ts ≡ Some a → P a
 unfolding meaning
 meaning_plain P [] ts a k h e = absurd cc
 meaning_plain P (row ∷ rows) ts a k h e = go (meaning_plain P rows ts a k.1 h) (fit row.slots ts nothing_found) refl e
   where
-    go : (meaning rows ts ≡ Some a → P a) → (r : Result (Found × List Lexeme) (List Lexeme)) → fit row.slots ts nothing_found ≡ r
+    go : (meaning rows ts ≡ Some a → P a) → (r : Result (Found × List Lexeme) (List Lexeme))
+        → fit row.slots ts nothing_found ≡ r
         → meant row rows ts (whole r) ≡ Some a → P a
-    go later (Ok (f, [])) m e = subst P (some_is (row.means f) a e) (k.0 f (fit_plain row.slots ts nothing_found (f, []) m h ascii_nil))
+    go later (Ok (f, [])) m e =
+        subst P (some_is (row.means f) a e) (k.0 f (fit_plain row.slots ts nothing_found (f, []) m h ascii_nil))
     go later (Ok (f, t ∷ us)) m e = later e
     go later (Err us) m e = later e
 
@@ -262,7 +254,8 @@ having_ascii xs x h k = go (place_in xs x)
     go (Some i) = h
     go None = All-push IsAscii xs x h k
 
-locations_ascii : (xs : List (List ℕ)) (form : Form) → All IsAscii xs → IsAsciiForm form → All IsAscii (locations_after xs form)
+locations_ascii : (xs : List (List ℕ)) (form : Form) → All IsAscii xs → IsAsciiForm form
+    → All IsAscii (locations_after xs form)
 locations_ascii xs Blank h k = h
 locations_ascii xs Fence h k = h
 locations_ascii xs (StoreNumber x n) h k = having_ascii xs x h k
@@ -274,79 +267,10 @@ locations_ascii xs (Exchange x r) h k = having_ascii xs x h k
 abbrev AreAscii : Threads → Type 0
 AreAscii s = All IsAscii s.locations
 
-acted_ascii : (i : ℕ) (form : Form) (s : Threads) (o : Option Code) (line : ℕ) (next : Threads) → IsAsciiForm form → acted i form s o line ≡ Ok next → AreAscii s → AreAscii next
-acted_ascii i form s None line next k e h = absurd cc
-acted_ascii i form s (Some code) line next k e h = subst AreAscii (ok_is (threads_after i form s code) next e) (locations_ascii s.locations form h k)
-
-act_ascii : (i : ℕ) (s : Threads) (r : Result Form InstrError) (line : ℕ) (next : Threads) → ((form : Form) → r ≡ Ok form → IsAsciiForm form) → act i s r line ≡ Ok next → AreAscii s → AreAscii next
-act_ascii i s (Err d) line next k e h = absurd cc
-act_ascii i s (Ok form) line next k e h = acted_ascii i form s (code_after s.locations form (body_of i s)) line next (k form refl) e h
-
-cell_ascii : (i : ℕ) (s : Threads) (cell : List Lexeme) (next : Threads) → ArePlain cell → cell_at i s cell ≡ Ok next → AreAscii s → AreAscii next
-unfolding cell_at
-cell_ascii i s cell next k e h = act_ascii i s (parse cell) (line_at 0 cell) next (λ form m. parse_plain cell form k m) e h
-
-cells_ascii : (i : ℕ) (s : Threads) (cs : List (List Lexeme)) (next : Threads) → AreAllPlain cs → cells_at i s cs ≡ Ok next → AreAscii s → AreAscii next
-unfolding cells_at
-cells_ascii i s [] next k e h = subst AreAscii (ok_is s next e) h
-cells_ascii i s (c ∷ cs) next k e h =
-    let b = bound (cell_at i s c) (λ next. cells_at (suc i) next cs) next e in
-    cells_ascii (suc i) b.0 cs next k.1 b.2 (cell_ascii i s c b.0 k.0 b.1 h)
-
-row_ascii : (line : ℕ) (s : Threads) (row : List Lexeme) (next : Threads) → ArePlain row → row_of line s row ≡ Ok next → AreAscii s → AreAscii next
-unfolding row_of
-row_ascii line s row next k e h = go (length (cells row) == length s.bodies) e
-  where
-    go : (v : Bool) → cond v (cells_at 0 s (cells row)) (refuse Column line) ≡ Ok next → AreAscii next
-    go true m = cells_ascii 0 s (cells row) next (plain-split row k) m h
-    go false m = absurd cc
-
-rows_ascii : (last : ℕ) (s : Threads) (row ts : List Lexeme) (x : Threads × List Lexeme) → ArePlain row → ArePlain ts → rows_at last s row ts ≡ Ok x → AreAscii s → AreAscii x.0
-unfolding rows_at
-rows_ascii last s [] [] x m n e h = absurd cc
-rows_ascii last s (y ∷ row) [] x m n e h = absurd cc
-rows_ascii last s [] (t ∷ ts) x m n e h = go (λ next k. rows_ascii last next [] ts x tt n.1 k) (rows_ascii last s (t ∷ []) ts x (n.0, tt) n.1) (ends_code t) (is Semi t) e
-  where
-    go : ((next : Threads) → rows_at last next [] ts ≡ Ok x → AreAscii next → AreAscii x.0) → (rows_at last s (t ∷ []) ts ≡ Ok x → AreAscii s → AreAscii x.0) → (v w : Bool)
-        → cond v (Ok (s, t ∷ ts)) (cond w (row_of t.line s [] >>= (λ next. rows_at last next [] ts)) (rows_at last s (t ∷ []) ts)) ≡ Ok x → AreAscii x.0
-    go again longer true w k = subst (λ (x : Threads × List Lexeme). AreAscii x.0) (ok_is (s, t ∷ ts) x k) h
-    go again longer false true k = let b = bound (row_of t.line s []) (λ next. rows_at last next [] ts) x k in again b.0 b.2 (row_ascii t.line s [] b.0 tt b.1 h)
-    go again longer false false k = longer k h
-rows_ascii last s (y ∷ row) (t ∷ ts) x m n e h = go (λ next k. rows_ascii last next [] ts x tt n.1 k) (rows_ascii last s (y ∷ (row ++ t ∷ [])) ts x (m.0, plain-append row (t ∷ []) m.1 (n.0, tt)) n.1) (is Semi t) e
-  where
-    go : ((next : Threads) → rows_at last next [] ts ≡ Ok x → AreAscii next → AreAscii x.0) → (rows_at last s (y ∷ (row ++ t ∷ [])) ts ≡ Ok x → AreAscii s → AreAscii x.0) → (w : Bool)
-        → cond w (row_of t.line s (y ∷ row) >>= (λ next. rows_at last next [] ts)) (rows_at last s (y ∷ (row ++ t ∷ [])) ts) ≡ Ok x → AreAscii x.0
-    go again longer true k = let b = bound (row_of t.line s (y ∷ row)) (λ next. rows_at last next [] ts) x k in again b.0 b.2 (row_ascii t.line s (y ∷ row) b.0 m b.1 h)
-    go again longer false k = longer k h
-
--- what stands behind the first row, and no locations yet
-abbrev IsPlainPair : Threads × List Lexeme → Type 0
-IsPlainPair x = AreAscii x.0 × ArePlain x.1
-
-columns_ascii : (last : ℕ) (row ts : List Lexeme) (x : Threads × List Lexeme) → ArePlain ts → columns_at last row ts ≡ Ok x → IsPlainPair x
-unfolding columns_at
-columns_ascii last row [] x h e = absurd cc
-columns_ascii last row (t ∷ ts) x h e = go (columns_ascii last (row ++ t ∷ []) ts x h.1) (is Semi t) (are_columns 0 (cells row)) e
-  where
-    go : (columns_at last (row ++ t ∷ []) ts ≡ Ok x → IsPlainPair x) → (v w : Bool) → cond v (cond w (Ok (no_code (length (cells row)), ts)) (refuse Column t.line)) (columns_at last (row ++ t ∷ []) ts) ≡ Ok x → IsPlainPair x
-    go longer true true k = subst IsPlainPair (ok_is (no_code (length (cells row)), ts) x k) (All-nil IsAscii, h.1)
-    go longer true false k = absurd cc
-    go longer false w k = longer k
-
--- the tokens behind the initial state
-items_plain : (last : ℕ) (item ts rest : List Lexeme) → ArePlain ts → items last item ts ≡ Ok rest → ArePlain rest
-unfolding items
-items_plain last item [] rest h e = absurd cc
-items_plain last item (t ∷ ts) rest h e = go (items_plain last [] ts rest h.1) (items_plain last (item ++ t ∷ []) ts rest h.1) (ends_item t) (is RightBrace t) e
-  where
-    ends : (items last [] ts ≡ Ok rest → ArePlain rest) → (w : Bool) → cond w (Ok ts) (items last [] ts) ≡ Ok rest → ArePlain rest
-    ends next true k = subst ArePlain (ok_is ts rest k) h.1
-    ends next false k = next k
-
-    go : (items last [] ts ≡ Ok rest → ArePlain rest) → (items last (item ++ t ∷ []) ts ≡ Ok rest → ArePlain rest) → (v w : Bool)
-        → cond v (judge item >>= (λ _. cond w (Ok ts) (items last [] ts))) (items last (item ++ t ∷ []) ts) ≡ Ok rest → ArePlain rest
-    go next longer true w k = let b = bound (judge item) (λ _. cond w (Ok ts) (items last [] ts)) rest k in ends next w b.2
-    go next longer false w k = longer k
+acted_ascii : (i : ℕ) (s : Threads) (cell : List Lexeme) (form : Form) (code : Code) → ArePlain cell
+    → parse cell ≡ Ok form
+    → code_after s.locations form (body_of i s) ≡ Some code → AreAscii s → AreAscii (threads_after i form s code)
+acted_ascii i s cell form code p m k h = locations_ascii s.locations form h (parse_plain cell form p m)
 
 -- ---- the whole test
 
@@ -364,57 +288,31 @@ first_ascii : (text : List ℕ) (x : List ℕ × Rest) → first_line text ≡ O
 unfolding first_line
 first_ascii text x e = go (is_x86 (words (line_in text))) (name_of (words (line_in text))) refl e
   where
-    go : (v : Bool) (o : Option (List ℕ)) → name_of (words (line_in text)) ≡ o → cond v (named_or_not o (rest_at (after_bytes start (line_in text)) (behind_line text))) (refuse NotX86 1) ≡ Ok x → IsAscii x.0
+    go : (v : Bool) (o : Option (List ℕ)) → name_of (words (line_in text)) ≡ o
+        → cond v (named_or_not o (rest_at (after_bytes start (line_in text)) (behind_line text))) (refuse NotX86 1) ≡ Ok x
+        → IsAscii x.0
     go true None k e = absurd cc
     go true (Some name) k e = subst (λ (x : List ℕ × Rest). IsAscii x.0) (ok_is (name, rest_at (after_bytes start (line_in text)) (behind_line text)) x e) (name_ascii (words (line_in text)) name k)
     go false o k e = absurd cc
 
-moved : (x y : LitmusTest) → x ≡ y → HasAsciiNames x → HasAsciiNames y
-moved x y e h = subst HasAsciiNames e h
-
-tokens_ascii : (last : ℕ) (name : List ℕ) (ts : List Lexeme) (test : LitmusTest) → IsAscii name → ArePlain ts → tokens_at last name ts ≡ Ok test → HasAsciiNames test
-unfolding tokens_at
-tokens_ascii last name ts test n h e =
-    let i = bound (items last [] ts) _ test e in
-    let c = bound (columns_at last [] i.0) _ test i.2 in
-    let s = bound (rows_at last c.0.0 [] c.0.1) _ test c.2 in
-    let l = bound (section_at last s.0.1) _ test s.2 in
-    let q = bound (quantifier_at last l.0) _ test l.2 in
-    let j = bound (expression_at last (AtTerm false) outermost q.0.1) _ test q.2 in
-    let p = columns_ascii last [] i.0 c.0 (items_plain last [] ts i.0 h i.1) c.1 in
-    let a = rows_ascii last c.0.0 [] c.0.1 s.0 tt p.1 s.1 p.0 in
-    moved (test_of name s.0.0 q.0.0 j.0) test (ok_is (test_of name s.0.0 q.0.0 j.0) test j.2) (n, a)
-
 sections_ascii : (text : List ℕ) (test : LitmusTest) → sections_at text ≡ Ok test → HasAsciiNames test
-unfolding sections_at
 sections_ascii text test e =
-    let f = bound (first_line text) _ test e in
-    let h = bound (head (last_line text) 0 f.0.1.at f.0.1.text) _ test f.2 in
-    tokens_ascii (last_line text) f.0.0 (lex 0 h.0.at h.0.text) test (first_ascii text f.0 f.1) (lex_plain 0 h.0.at h.0.text) h.2
-
--- the sections of a text that is read as a test
-accepted_is : (text : List ℕ) (test : LitmusTest) → read_text text ≡ Accepted test → sections_at text ≡ Ok test
-unfolding read_text
-accepted_is text test e = go (sections_at text) e
-  where
-    same : (t : LitmusTest) (o : Option Shape) → limited t o ≡ Accepted test → t ≡ test
-    same t None e = cc
-    same t (Some limit) e = absurd cc
-
-    go : (r : Result LitmusTest Refusal) → answer_of r ≡ Accepted test → r ≡ Ok test
-    go (Err d) e = absurd cc
-    go (Ok t) e = ap (λ (t : LitmusTest). Ok t) (same t (limit_of t) e)
+    let k = sections_keep IsPlain AreAscii (λ row. All-nil IsAscii) acted_ascii text test (λ at text. lex_plain 0 at text) e in
+    subst HasAsciiNames k.kept.is (first_ascii text k.first k.is_first, k.kept.good)
 
 read_ascii : (text : List ℕ) (test : LitmusTest) → read_text text ≡ Accepted test → HasAsciiNames test
-read_ascii text test e = sections_ascii text test (accepted_is text test e)
+unfolding read_text
+read_ascii text test e = sections_ascii text test (accepted_is (sections_at text) test e).0
 
 pub names_are_ascii : NamesAreAscii
 names_are_ascii text test h = read_ascii text test ((one_reading text).1 (Accepted test) h)
 
-pub answered_name : (text : List ℕ) (r : Result LitmusTest LitmusError) → IfAnswered r (λ answer. read_text text ≡ answer) → IfOk r (λ test. IsAscii test.name)
+pub answered_name : (text : List ℕ) (r : Result LitmusTest LitmusError)
+    → IfAnswered r (λ answer. read_text text ≡ answer) → IfOk r (λ test. IsAscii test.name)
 answered_name text (Ok test) h = (read_ascii text test h).0
 answered_name text (Err e) h = tt
 
-pub answered_locations : (text : List ℕ) (r : Result LitmusTest LitmusError) → IfAnswered r (λ answer. read_text text ≡ answer) → IfOk r (λ test. All IsAscii test.locations)
+pub answered_locations : (text : List ℕ) (r : Result LitmusTest LitmusError)
+    → IfAnswered r (λ answer. read_text text ≡ answer) → IfOk r (λ test. All IsAscii test.locations)
 answered_locations text (Ok test) h = (read_ascii text test h).1
 answered_locations text (Err e) h = tt

@@ -2,11 +2,14 @@ pub mod Lists
 pub mod Bound
 pub mod EndsLaws
 pub mod NestLaws
+pub mod RowsKeep
 pub mod FitLaws
+pub mod TestLaws
 mod Examples
 pub mod FrontLaws
 pub mod InitialLaws
 pub mod RowsLaws
+pub mod Fronts
 pub mod ConditionLaws
 pub mod ReadingLaws
 pub mod Walk

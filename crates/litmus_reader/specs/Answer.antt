@@ -42,7 +42,8 @@ abbrev pub ◌>>=◌ : {A B : Type 0} → Result A Refusal → (A → Result B R
 (Err e) >>= f = Err e
 
 -- One section and then the next. After a kind no reading goes on.
-pub data Then {A B : Type 0} (first : Result A Refusal → Type 0) (next : A → Result B Refusal → Type 0) : Result B Refusal → Type 0 where
+pub data Then {A B : Type 0} (first : Result A Refusal → Type 0) (next : A → Result B Refusal → Type 0)
+    : Result B Refusal → Type 0 where
   -- a kind ends the reading
   stops : (e : Refusal) → first (Err e) → Then first next (Err e)
   -- the next section goes on from what this one gave

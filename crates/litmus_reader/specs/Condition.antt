@@ -1,6 +1,6 @@
 -- The section of locations and the condition of herdtools' X86 litmus format, in the profile that this project takes.
-use Rattle.std.specs.Prelude.{ℕ, suc, ◌+◌, ◌-◌, ◌==◌, min, map, Bool, true, false, not, ◌&&◌, ◌||◌, IsTrue, IsFalse, List, [], ◌∷◌, ◌++◌, Some, None, Result, Ok, Err, if◌then◌else◌, nat_lt, nat_le, codes}
-use Rattle.std.specs.List.{list_all}
+use Rattle.std.specs.Prelude.{ℕ, ◌+◌, map, length, Bool, true, false, not, ◌&&◌, ◌||◌, IsTrue, IsFalse, List, [], ◌∷◌, ◌++◌, Result, Ok, Err, if◌then◌else◌, nat_lt, codes}
+use Rattle.std.specs.List.{list_all, list_any, flat_map}
 use Rattle.x86_subset.specs.declared.test.Atom.{Atom}
 use Rattle.x86_subset.specs.declared.test.Quantifier.{Quantifier}
 use Rattle.x86_subset.specs.declared.test.Quantifier.TheVariants.{Exists, NotExists}
@@ -8,11 +8,10 @@ use Rattle.x86_subset.specs.declared.token.TokenKind.TheVariants.{Name, Number, 
 use Rattle.x86_subset.specs.Token.{Lexeme}
 use Rattle.x86_subset.specs.declared.form.Slot.{Slot}
 use Rattle.x86_subset.specs.declared.form.Slot.TheVariants.{Mark, Maybe, Register, Small, Thread}
-use Rattle.x86_subset.specs.Form.{is, next_is, is_word, Found, nothing_found, fill, may_miss, Fits}
-use Rattle.litmus_reader.specs.declared.condition.Nest.{Nest}
+use Rattle.x86_subset.specs.Form.{is, next_is, is_word, Found, nothing_found, Fits}
 use Rattle.litmus_reader.specs.declared.kind.LitmusKind.{LitmusKind}
 use Rattle.litmus_reader.specs.declared.kind.LitmusKind.TheVariants.{Condition, Forall, MemoryCondition, Disjunction, Trailing}
-use Rattle.litmus_reader.specs.Answer.{Refusal, refuse, ◌>>=◌, line_at}
+use Rattle.litmus_reader.specs.Answer.{Refusal, refuse, line_at}
 
 -- ---- the section of locations
 
@@ -32,12 +31,16 @@ pub data Section (last : ℕ) : List Lexeme → Result (List Lexeme) Refusal →
   -- the text is over behind the word
   ended : {t : Lexeme} → IsTrue (is_word (codes "locations") t) → Section last (t ∷ []) (refuse Condition last)
   -- another token in place of the bracket: its line
-  wrong : {t u : Lexeme} {ts : List Lexeme} → IsTrue (is_word (codes "locations") t) → IsFalse (is LeftSquare u) → Section last (t ∷ u ∷ ts) (refuse Condition u.line)
+  wrong : {t u : Lexeme} {ts : List Lexeme} → IsTrue (is_word (codes "locations") t) → IsFalse (is LeftSquare u)
+      → Section last (t ∷ u ∷ ts) (refuse Condition u.line)
   -- no closing bracket
-  unclosed : {t u : Lexeme} {ts : List Lexeme} → IsTrue (is_word (codes "locations") t) → IsTrue (is LeftSquare u) → IsTrue (list_all is_no_close ts) → Section last (t ∷ u ∷ ts) (refuse Condition last)
+  unclosed : {t u : Lexeme} {ts : List Lexeme} → IsTrue (is_word (codes "locations") t) → IsTrue (is LeftSquare u)
+      → IsTrue (list_all is_no_close ts) → Section last (t ∷ u ∷ ts) (refuse Condition last)
   -- skipped to the first closing bracket
-  skipped : {t u : Lexeme} (inside : List Lexeme) (v : Lexeme) (rest : List Lexeme) → IsTrue (is_word (codes "locations") t) → IsTrue (is LeftSquare u)
-      → IsTrue (list_all is_no_close inside) → IsTrue (is RightSquare v) → Section last (t ∷ u ∷ (inside ++ v ∷ rest)) (Ok rest)
+  skipped : {t u : Lexeme} (inside : List Lexeme) (v : Lexeme) (rest : List Lexeme)
+      → IsTrue (is_word (codes "locations") t) → IsTrue (is LeftSquare u)
+      → IsTrue (list_all is_no_close inside) → IsTrue (is RightSquare v)
+      → Section last (t ∷ u ∷ (inside ++ v ∷ rest)) (Ok rest)
 
 -- ---- the quantifier
 
@@ -50,19 +53,27 @@ pub data Quantified (last : ℕ) : List Lexeme → Result (Quantifier × List Le
   -- the text is over
   ended : Quantified last [] (refuse Condition last)
   -- `exists`
-  exists : {t : Lexeme} {ts : List Lexeme} → IsTrue (is_word (codes "exists") t) → Quantified last (t ∷ ts) (Ok (Exists, ts))
+  exists : {t : Lexeme} {ts : List Lexeme} → IsTrue (is_word (codes "exists") t)
+      → Quantified last (t ∷ ts) (Ok (Exists, ts))
   -- `forall`: its line
-  forall : {t : Lexeme} {ts : List Lexeme} → IsTrue (is_word (codes "forall") t) → Quantified last (t ∷ ts) (refuse Forall t.line)
+  forall : {t : Lexeme} {ts : List Lexeme} → IsTrue (is_word (codes "forall") t)
+      → Quantified last (t ∷ ts) (refuse Forall t.line)
   -- any other token: its line
-  other : {t : Lexeme} {ts : List Lexeme} → IsFalse (begins_quantifier t) → Quantified last (t ∷ ts) (refuse Condition t.line)
+  other : {t : Lexeme} {ts : List Lexeme} → IsFalse (begins_quantifier t)
+      → Quantified last (t ∷ ts) (refuse Condition t.line)
   -- the text is over behind `~`
   tilde_ended : {t : Lexeme} → IsTrue (is Tilde t) → Quantified last (t ∷ []) (refuse Condition last)
   -- `~exists`
-  not_exists : {t u : Lexeme} {ts : List Lexeme} → IsTrue (is Tilde t) → IsTrue (is_word (codes "exists") u) → Quantified last (t ∷ u ∷ ts) (Ok (NotExists, ts))
+  not_exists : {t u : Lexeme} {ts : List Lexeme} → IsTrue (is Tilde t) → IsTrue (is_word (codes "exists") u)
+      → Quantified last (t ∷ u ∷ ts) (Ok (NotExists, ts))
   -- another token behind `~`: its line
-  tilde_other : {t u : Lexeme} {ts : List Lexeme} → IsTrue (is Tilde t) → IsFalse (is_word (codes "exists") u) → Quantified last (t ∷ u ∷ ts) (refuse Condition u.line)
+  tilde_other : {t u : Lexeme} {ts : List Lexeme} → IsTrue (is Tilde t) → IsFalse (is_word (codes "exists") u)
+      → Quantified last (t ∷ u ∷ ts) (refuse Condition u.line)
 
 -- ---- the expression
+-- Conjunctions with `\/` between them, eight at most. A conjunction is terms with `/\` between them. A term is an atom,
+-- or an expression in parentheses, of which sixteen at most are open; one that holds a `\/` stands alone in its
+-- conjunction.
 
 -- an atom: a thread's number, `:`, a register, `=` and a number
 abbrev pub atom_slots : List Slot
@@ -72,51 +83,47 @@ atom_slots = Thread ∷ Mark Colon ∷ Register ∷ Mark Equal ∷ Maybe Dollar 
 abbrev pub atom_of : Found → Atom
 atom_of found = record { thread = found.thread; reg = found.register; value = found.small }
 
--- atoms, and the ends of their conjunctions: how many of the atoms stand before each end
-pub record Joined : Type 0 where
+-- an open parenthesis: whether it began directly behind a `/\`, and whether a `\/` has stood in it
+pub record Paren : Type 0 where
+  pub joined : Bool
+  pub holds : Bool
+
+-- one that begins, directly behind a `/\` or not
+abbrev pub begun : Bool → Paren
+begun joined = record { joined = joined; holds = false }
+
+-- behind a `\/` all that are open hold one
+abbrev pub all_hold : List Paren → List Paren
+all_hold around = map (λ (p : Paren). record p { holds = true }) around
+
+-- what was read: the conjunctions that have ended, and the atoms of the one that has not
+pub record Conjunctions : Type 0 where
+  pub ended : List (List Atom)
   pub atoms : List Atom
-  pub ends : List ℕ
 
--- nothing further: the last conjunction ends here
-abbrev pub all_read : Joined
-all_read = record { atoms = []; ends = 0 ∷ [] }
+-- nothing yet
+abbrev pub none_read : Conjunctions
+none_read = record { ended = []; atoms = [] }
 
--- an atom in front
-abbrev pub with_atom : Found → Result Joined Refusal → Result Joined Refusal
-with_atom found r = r >>= λ j. Ok (record { atoms = atom_of found ∷ j.atoms; ends = map suc j.ends })
+-- and then an atom
+abbrev pub then_atom : Conjunctions → Found → Conjunctions
+then_atom read found = record read { atoms = read.atoms ++ atom_of found ∷ [] }
 
--- the end of a conjunction in front
-abbrev pub with_end : Result Joined Refusal → Result Joined Refusal
-with_end r = r >>= λ j. Ok (record { atoms = j.atoms; ends = 0 ∷ j.ends })
+-- all conjunctions, where the last one ends
+abbrev pub all_of : Conjunctions → List (List Atom)
+all_of read = read.ended ++ read.atoms ∷ []
 
--- Where a token stands: inside `depth` open parentheses, of which the outermost `holding` hold a `\/`. The outermost one that began
--- directly behind a `/\` is the one of number `barred`, from 1 on; 0 where none did. So many `\/` stand before.
-abbrev pub outermost : Nest
-outermost = record { depth = 0; holding = 0; barred = 0; ors = 0 }
+-- and then a `\/`
+abbrev pub then_or : Conjunctions → Conjunctions
+then_or read = record { ended = all_of read; atoms = [] }
 
--- inside one more parenthesis, which began directly behind a `/\` or not
-abbrev pub opened_in : Bool → Nest → Nest
-opened_in joined n = record n { depth = n.depth + 1; barred = if joined && n.barred == 0 then n.depth + 1 else n.barred }
+-- one more parenthesis may open inside these: at most sixteen are open
+abbrev pub may_open : List Paren → Bool
+may_open around = nat_lt (length around) 16
 
--- behind the parenthesis that closes the innermost one
-abbrev pub closed_in : Nest → Nest
-closed_in n = record n { depth = n.depth - 1; holding = min n.holding (n.depth - 1); barred = if nat_lt n.barred n.depth then n.barred else 0 }
-
--- the innermost parenthesis holds a `\/`
-abbrev pub holds_or : Nest → Bool
-holds_or n = nat_le n.depth n.holding
-
--- behind a `\/`: each open parenthesis holds it
-abbrev pub behind_or : Nest → Nest
-behind_or n = record n { holding = n.depth; ors = n.ors + 1 }
-
--- a `\/` may stand here: no parenthesis around it began directly behind a `/\`, and no ninth conjunction begins
-abbrev pub may_or : Nest → Bool
-may_or n = n.barred == 0 && nat_lt n.ors 7
-
--- no parenthesis is open
-abbrev pub is_outside : Nest → Bool
-is_outside n = n.depth == 0
+-- a `\/` may stand inside these: none of them began directly behind a `/\`, and no ninth conjunction begins
+abbrev pub may_part : List Paren → Conjunctions → Bool
+may_part around read = not (list_any (λ (p : Paren). p.joined) around) && nat_lt (length read.ended) 7
 
 -- a token that says that the condition is one on memory
 abbrev pub is_memory : Lexeme → List Lexeme → Bool
@@ -130,49 +137,100 @@ begins_nothing t next = not (is Number t || is Left t || is_memory t next)
 abbrev pub joins : Lexeme → Bool
 joins t = is Both t || is Either t
 
-mutual
-  -- `Term last joined nest tokens answer`: a term must stand here, directly behind a `/\` or not
-  pub data Term (last : ℕ) : Bool → Nest → List Lexeme → Result Joined Refusal → Type 0 where
-    -- the text is over
-    no_term : {joined : Bool} {n : Nest} → Term last joined n [] (refuse Condition last)
-    -- an atom
-    atom : {joined : Bool} {n : Nest} {t : Lexeme} {ts : List Lexeme} (found : Found) (rest : List Lexeme) (r : Result Joined Refusal) → IsTrue (is Number t)
-        → Fits atom_slots (t ∷ ts) nothing_found (Ok (found, rest)) → Behind last false n rest r → Term last joined n (t ∷ ts) (with_atom found r)
-    -- a number that begins no atom: the line of the first token that does not fit
-    no_atom : {joined : Bool} {n : Nest} {t : Lexeme} {ts : List Lexeme} (misfit : List Lexeme) → IsTrue (is Number t)
-        → Fits atom_slots (t ∷ ts) nothing_found (Err misfit) → Term last joined n (t ∷ ts) (refuse Condition (line_at last misfit))
-    -- one more parenthesis
-    opened : {joined : Bool} {n : Nest} {t : Lexeme} {ts : List Lexeme} {r : Result Joined Refusal} → IsTrue (is Left t) → IsTrue (nat_lt n.depth 16)
-        → Term last false (opened_in joined n) ts r → Term last joined n (t ∷ ts) r
-    -- one parenthesis too many: its line
-    too_deep : {joined : Bool} {n : Nest} {t : Lexeme} {ts : List Lexeme} → IsTrue (is Left t) → IsFalse (nat_lt n.depth 16) → Term last joined n (t ∷ ts) (refuse Condition t.line)
-    -- a condition on memory: its line
-    memory : {joined : Bool} {n : Nest} {t : Lexeme} {ts : List Lexeme} → IsTrue (is_memory t ts) → Term last joined n (t ∷ ts) (refuse MemoryCondition t.line)
-    -- no beginning of a term: its line
-    other : {joined : Bool} {n : Nest} {t : Lexeme} {ts : List Lexeme} → IsTrue (begins_nothing t ts) → Term last joined n (t ∷ ts) (refuse Condition t.line)
+-- `NoTerm last around tokens kind line`: a term must stand here, inside these open parentheses, and none does
+pub data NoTerm (last : ℕ) (around : List Paren) : List Lexeme → LitmusKind → ℕ → Type 0 where
+  -- the text is over
+  text_over : NoTerm last around [] Condition last
+  -- a number that begins no atom: the line of the first token that does not fit
+  no_atom : {t : Lexeme} {ts : List Lexeme} (misfit : List Lexeme) → IsTrue (is Number t)
+      → Fits atom_slots (t ∷ ts) nothing_found (Err misfit)
+      → NoTerm last around (t ∷ ts) Condition (line_at last misfit)
+  -- one parenthesis too many: its line
+  too_deep : {t : Lexeme} {ts : List Lexeme} → IsTrue (is Left t) → IsFalse (may_open around)
+      → NoTerm last around (t ∷ ts) Condition t.line
+  -- a condition on memory: its line
+  memory : {t : Lexeme} {ts : List Lexeme} → IsTrue (is_memory t ts)
+      → NoTerm last around (t ∷ ts) MemoryCondition t.line
+  -- no beginning of a term: its line
+  other : {t : Lexeme} {ts : List Lexeme} → IsTrue (begins_nothing t ts) → NoTerm last around (t ∷ ts) Condition t.line
 
-  -- `Behind last mixed nest tokens answer`: a term has ended here, one in parentheses that holds a `\/` or not
-  pub data Behind (last : ℕ) : Bool → Nest → List Lexeme → Result Joined Refusal → Type 0 where
-    -- `/\`: a further term
-    and : {n : Nest} {t : Lexeme} {ts : List Lexeme} {r : Result Joined Refusal} → IsTrue (is Both t) → Term last true n ts r → Behind last false n (t ∷ ts) r
-    -- `/\` behind a term that may only stand alone: its line
-    mixed_and : {n : Nest} {t : Lexeme} {ts : List Lexeme} → IsTrue (is Both t) → Behind last true n (t ∷ ts) (refuse Disjunction t.line)
-    -- `\/`: a further conjunction
-    or : {mixed : Bool} {n : Nest} {t : Lexeme} {ts : List Lexeme} {r : Result Joined Refusal} → IsTrue (is Either t) → IsTrue (may_or n)
-        → Term last false (behind_or n) ts r → Behind last mixed n (t ∷ ts) (with_end r)
-    -- `\/` where none may stand: its line
-    no_or : {mixed : Bool} {n : Nest} {t : Lexeme} {ts : List Lexeme} → IsTrue (is Either t) → IsFalse (may_or n) → Behind last mixed n (t ∷ ts) (refuse Disjunction t.line)
-    -- a parenthesis closes
-    closed : {mixed : Bool} {n : Nest} {t : Lexeme} {ts : List Lexeme} {r : Result Joined Refusal} → IsFalse (is_outside n) → IsTrue (is Right t)
-        → Behind last (holds_or n) (closed_in n) ts r → Behind last mixed n (t ∷ ts) r
-    -- another token in a parenthesis: its line
-    stray : {mixed : Bool} {n : Nest} {t : Lexeme} {ts : List Lexeme} → IsFalse (is_outside n) → IsFalse (joins t || is Right t) → Behind last mixed n (t ∷ ts) (refuse Condition t.line)
-    -- another token outside all of them: its line
-    trailing : {mixed : Bool} {n : Nest} {t : Lexeme} {ts : List Lexeme} → IsTrue (is_outside n) → IsFalse (joins t) → Behind last mixed n (t ∷ ts) (refuse Trailing t.line)
-    -- the text is over, and so is the condition
-    ended : {mixed : Bool} {n : Nest} → IsTrue (is_outside n) → Behind last mixed n [] (Ok all_read)
-    -- the text is over in a parenthesis
-    text_ended : {mixed : Bool} {n : Nest} → IsFalse (is_outside n) → Behind last mixed n [] (refuse Condition last)
+-- `NoMore last read holds around tokens kind line`: a term has ended here, one in parentheses that holds a `\/` or not,
+-- and this cannot follow
+pub data NoMore (last : ℕ) (read : Conjunctions) : Bool → List Paren → List Lexeme → LitmusKind → ℕ → Type 0 where
+  -- `/\` behind a term that stands alone: its line
+  mixed_and : {around : List Paren} {t : Lexeme} {ts : List Lexeme} → IsTrue (is Both t)
+      → NoMore last read true around (t ∷ ts) Disjunction t.line
+  -- `\/` where none may stand: its line
+  no_or : {holds : Bool} {around : List Paren} {t : Lexeme} {ts : List Lexeme}
+      → IsTrue (is Either t) → IsFalse (may_part around read)
+      → NoMore last read holds around (t ∷ ts) Disjunction t.line
+  -- another token in a parenthesis: its line
+  stray : {holds : Bool} {p : Paren} {around : List Paren} {t : Lexeme} {ts : List Lexeme}
+      → IsFalse (joins t || is Right t) → NoMore last read holds (p ∷ around) (t ∷ ts) Condition t.line
+  -- another token outside all of them: its line
+  trailing : {holds : Bool} {t : Lexeme} {ts : List Lexeme} → IsFalse (joins t)
+      → NoMore last read holds [] (t ∷ ts) Trailing t.line
+  -- the text is over in a parenthesis
+  unclosed : {holds : Bool} {p : Paren} {around : List Paren} → NoMore last read holds (p ∷ around) [] Condition last
+
+-- the conjunctions, or what is refused
+abbrev pub Told : Type 0
+Told = Result (List (List Atom)) Refusal
+
+mutual
+  -- `Term last joined around read tokens answer`: a term must stand here, directly behind a `/\` or not, inside these
+  -- open parentheses, the innermost one first, and behind what was read
+  pub data Term (last : ℕ) : Bool → List Paren → Conjunctions → List Lexeme → Told → Type 0 where
+    -- an atom
+    atom : {joined : Bool} {around : List Paren} {read : Conjunctions} {t : Lexeme} {ts : List Lexeme} {r : Told}
+        (found : Found) (rest : List Lexeme) → IsTrue (is Number t)
+        → Fits atom_slots (t ∷ ts) nothing_found (Ok (found, rest))
+        → Behind last false around (then_atom read found) rest r
+        → Term last joined around read (t ∷ ts) r
+    -- `(`, and a term in it
+    opened : {joined : Bool} {around : List Paren} {read : Conjunctions} {t : Lexeme} {ts : List Lexeme} {r : Told}
+        → IsTrue (is Left t) → IsTrue (may_open around) → Term last false (begun joined ∷ around) read ts r
+        → Term last joined around read (t ∷ ts) r
+    -- none
+    no_term : {joined : Bool} {around : List Paren} {read : Conjunctions} {ts : List Lexeme}
+        {kind : LitmusKind} {line : ℕ} → NoTerm last around ts kind line
+        → Term last joined around read ts (refuse kind line)
+
+  -- `Behind last holds around read tokens answer`: a term has ended here, one in parentheses that holds a `\/` or not
+  pub data Behind (last : ℕ) : Bool → List Paren → Conjunctions → List Lexeme → Told → Type 0 where
+    -- `/\`, and a further term
+    and : {around : List Paren} {read : Conjunctions} {t : Lexeme} {ts : List Lexeme} {r : Told}
+        → IsTrue (is Both t) → Term last true around read ts r → Behind last false around read (t ∷ ts) r
+    -- `\/`, and a further conjunction
+    or : {holds : Bool} {around : List Paren} {read : Conjunctions} {t : Lexeme} {ts : List Lexeme} {r : Told}
+        → IsTrue (is Either t) → IsTrue (may_part around read) → Term last false (all_hold around) (then_or read) ts r
+        → Behind last holds around read (t ∷ ts) r
+    -- `)`, and so the term in these parentheses has ended
+    closed : {holds : Bool} {p : Paren} {around : List Paren} {read : Conjunctions} {t : Lexeme} {ts : List Lexeme}
+        {r : Told} → IsTrue (is Right t) → Behind last p.holds around read ts r
+        → Behind last holds (p ∷ around) read (t ∷ ts) r
+    -- the text is over outside all parentheses, and so is the condition
+    ended : {holds : Bool} {read : Conjunctions} → Behind last holds [] read [] (Ok (all_of read))
+    -- none of these
+    no_more : {holds : Bool} {around : List Paren} {read : Conjunctions} {ts : List Lexeme}
+        {kind : LitmusKind} {line : ℕ} → NoMore last read holds around ts kind line
+        → Behind last holds around read ts (refuse kind line)
+
+-- ---- conjunctions in a row
+
+-- atoms, and the ends of their conjunctions: how many of the atoms stand before each end
+pub record Joined : Type 0 where
+  pub atoms : List Atom
+  pub ends : List ℕ
+
+-- the ends of these conjunctions
+abbrev pub ends_of : List (List Atom) → List ℕ
+ends_of [] = []
+ends_of (c ∷ cs) = length c ∷ map (λ n. length c + n) (ends_of cs)
+
+-- the atoms of all conjunctions, one after another
+abbrev pub in_a_row : List (List Atom) → Joined
+in_a_row cs = record { atoms = flat_map (λ c. c) cs; ends = ends_of cs }
 
 -- ---- the same as functions
 
@@ -202,67 +260,3 @@ quantifier_at last [] = refuse Condition last
 quantifier_at last (t ∷ ts) =
     if is Tilde t then behind_tilde last ts else if is_word (codes "exists") t then Ok (Exists, ts) else
     refuse (if is_word (codes "forall") t then Forall else Condition) t.line
-
--- where the reading of an expression stands: where a term must stand, behind one, or in an atom, with the slots that are left
-pub data Place : Type 0 where
-  AtTerm : Bool → Place
-  BehindTerm : Bool → Place
-  InAtom : List Slot → Found → Place
-
--- what a token leads to: a place, the next conjunction, the end of an atom, or a kind
-pub data Step : Type 0 where
-  Goes : Place → Nest → Step
-  Parts : Nest → Step
-  Ends : Found → Step
-  Fails : LitmusKind → Step
-
--- behind a token that filled a slot
-abbrev pub filled : Nest → List Slot → Found → Step
-filled n [] found = Ends found
-filled n (s ∷ ss) found = Goes (InAtom (s ∷ ss) found) n
-
--- a token in an atom of which these slots are left
-unfoldable pub in_atom : Nest → List Slot → Lexeme → Found → Step
-in_atom n [] t found = Fails Condition
-in_atom n (s ∷ ss) t found = elim (fill s t found) [ Some more ↦ filled n ss more | None ↦ elim (may_miss s) [ true ↦ in_atom n ss t found | false ↦ Fails Condition ] ]
-
--- a token where a term must stand
-unfoldable pub at_term : Bool → Nest → Lexeme → List Lexeme → Step
-at_term joined n t next =
-    if is Number t then in_atom n atom_slots t nothing_found else
-    if is Left t then (if nat_lt n.depth 16 then Goes (AtTerm false) (opened_in joined n) else Fails Condition) else
-    Fails (if is_memory t next then MemoryCondition else Condition)
-
--- a token behind a term
-unfoldable pub behind_term : Bool → Nest → Lexeme → Step
-behind_term mixed n t =
-    if is Both t then (if mixed then Fails Disjunction else Goes (AtTerm true) n) else
-    if is Either t then (if may_or n then Parts (behind_or n) else Fails Disjunction) else
-    if is_outside n then Fails Trailing else
-    if is Right t then Goes (BehindTerm (holds_or n)) (closed_in n) else Fails Condition
-
--- a token at this place
-abbrev pub step : Place → Nest → Lexeme → List Lexeme → Step
-step (AtTerm joined) n t next = at_term joined n t next
-step (BehindTerm mixed) n t next = behind_term mixed n t
-step (InAtom ss found) n t next = in_atom n ss t found
-
--- the text may end here
-abbrev pub is_done : Place → Nest → Bool
-is_done (AtTerm joined) n = false
-is_done (BehindTerm mixed) n = is_outside n
-is_done (InAtom ss found) n = false
-
--- the text ends
-abbrev pub at_text_end : ℕ → Place → Nest → Result Joined Refusal
-at_text_end last place n = if is_done place n then Ok all_read else refuse Condition last
-
--- the atoms and the ends from this place on
-unfoldable pub expression_at : ℕ → Place → Nest → List Lexeme → Result Joined Refusal
-expression_at last place n [] = at_text_end last place n
-expression_at last place n (t ∷ ts) = elim (step place n t ts) [
-  | Goes next m ↦ expression_at last next m ts
-  | Parts m ↦ with_end (expression_at last (AtTerm false) m ts)
-  | Ends found ↦ with_atom found (expression_at last (BehindTerm false) n ts)
-  | Fails kind ↦ refuse kind t.line
-]

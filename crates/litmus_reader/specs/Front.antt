@@ -50,11 +50,14 @@ rest_at at text = record { at = at; text = text }
 -- the test's name, and what stands behind the first line
 pub data FirstLine (text : List ℕ) : Result (List ℕ × Rest) Refusal → Type 0 where
   -- no word, or another architecture
-  not_x86 : (line rest : List ℕ) → Line text line rest → IsFalse (is_x86 (words line)) → FirstLine text (refuse NotX86 1)
+  not_x86 : (line rest : List ℕ) → Line text line rest → IsFalse (is_x86 (words line))
+      → FirstLine text (refuse NotX86 1)
   -- not one word more, or one with a byte that is not printed
-  no_name : (line rest : List ℕ) → Line text line rest → IsTrue (is_x86 (words line)) → name_of (words line) ≡ None → FirstLine text (refuse Header 1)
+  no_name : (line rest : List ℕ) → Line text line rest → IsTrue (is_x86 (words line)) → name_of (words line) ≡ None
+      → FirstLine text (refuse Header 1)
   -- the second word is the name
-  named : (line : List ℕ) {name rest : List ℕ} → Line text line rest → IsTrue (is_x86 (words line)) → name_of (words line) ≡ Some name → FirstLine text (Ok (name, rest_at (after_bytes start line) rest))
+  named : (line : List ℕ) {name rest : List ℕ} → Line text line rest → IsTrue (is_x86 (words line))
+      → name_of (words line) ≡ Some name → FirstLine text (Ok (name, rest_at (after_bytes start line) rest))
 
 -- ---- the header
 
@@ -74,10 +77,12 @@ is_key b line = is_letter b && list_any (λ c. c == 61) line
 abbrev pub is_star : ℕ → Bool
 is_star b = b == 42
 
--- `Head last at text answer`: the header goes on with this text, which begins there. The answer is what stands behind the `{`.
+-- `Head last at text answer`: the header goes on with this text, which begins there. The answer is what stands behind
+-- the `{`.
 pub data Head (last : ℕ) : Spot → List ℕ → Result Rest Refusal → Type 0 where
   -- a blank counts for nothing
-  blank : {at : Spot} {b : ℕ} {rest : List ℕ} {r : Result Rest Refusal} → IsTrue (is_blank b) → Head last (after_byte at b) rest r → Head last at (b ∷ rest) r
+  blank : {at : Spot} {b : ℕ} {rest : List ℕ} {r : Result Rest Refusal} → IsTrue (is_blank b)
+      → Head last (after_byte at b) rest r → Head last at (b ∷ rest) r
   -- the end of the text
   ended : {at : Spot} → Head last at [] (refuse Header last)
   -- `{`
@@ -86,17 +91,22 @@ pub data Head (last : ℕ) : Spot → List ℕ → Result Rest Refusal → Type 
   quoted : {at : Spot} (inside rest : List ℕ) {r : Result Rest Refusal} → IsTrue (list_all is_no_quote inside)
       → Head last (after_bytes at (34 ∷ (inside ++ 34 ∷ []))) rest r → Head last at (34 ∷ (inside ++ 34 ∷ rest)) r
   -- a quote that is not closed: the line where it opens
-  unquoted : {at : Spot} {inside : List ℕ} → IsTrue (list_all is_no_quote inside) → Head last at (34 ∷ inside) (refuse Header at.line)
+  unquoted : {at : Spot} {inside : List ℕ} → IsTrue (list_all is_no_quote inside)
+      → Head last at (34 ∷ inside) (refuse Header at.line)
   -- a comment
   comment : {at : Spot} (inside rest : List ℕ) {r : Result Rest Refusal} → IsFalse (closes inside)
-      → Head last (after_bytes at (40 ∷ 42 ∷ (inside ++ 42 ∷ 41 ∷ []))) rest r → Head last at (40 ∷ 42 ∷ (inside ++ 42 ∷ 41 ∷ rest)) r
+      → Head last (after_bytes at (40 ∷ 42 ∷ (inside ++ 42 ∷ 41 ∷ []))) rest r
+      → Head last at (40 ∷ 42 ∷ (inside ++ 42 ∷ 41 ∷ rest)) r
   -- a comment that is not closed: the line where it opens
-  unclosed : {at : Spot} {inside : List ℕ} → IsFalse (closes inside) → Head last at (40 ∷ 42 ∷ inside) (refuse Header at.line)
+  unclosed : {at : Spot} {inside : List ℕ} → IsFalse (closes inside)
+      → Head last at (40 ∷ 42 ∷ inside) (refuse Header at.line)
   -- an entry: it begins with a letter and has an `=` later in its line
-  key : {at : Spot} {b : ℕ} {text : List ℕ} (skipped rest : List ℕ) {r : Result Rest Refusal} → Line text skipped rest → IsTrue (is_key b skipped)
+  key : {at : Spot} {b : ℕ} {text : List ℕ} (skipped rest : List ℕ) {r : Result Rest Refusal} → Line text skipped rest
+      → IsTrue (is_key b skipped)
       → Head last (after_bytes at (b ∷ skipped)) rest r → Head last at (b ∷ text) r
   -- no beginning of these kinds
-  other : {at : Spot} {b : ℕ} {text : List ℕ} (skipped rest : List ℕ) → IsTrue (is_plain b) → IsFalse (b == 40 && begins is_star text) → Line text skipped rest → IsFalse (is_key b skipped)
+  other : {at : Spot} {b : ℕ} {text : List ℕ} (skipped rest : List ℕ) → IsTrue (is_plain b)
+      → IsFalse (b == 40 && begins is_star text) → Line text skipped rest → IsFalse (is_key b skipped)
       → Head last at (b ∷ text) (refuse Header at.line)
 
 -- ---- the same as functions
@@ -123,7 +133,8 @@ named_or_not (Some name) rest = Ok (name, rest)
 unfoldable pub first_line : List ℕ → Result (List ℕ × Rest) Refusal
 first_line text =
     let ws = words (line_in text) in
-    if is_x86 ws then named_or_not (name_of ws) (rest_at (after_bytes start (line_in text)) (behind_line text)) else refuse NotX86 1
+    if is_x86 ws then named_or_not (name_of ws) (rest_at (after_bytes start (line_in text)) (behind_line text)) else
+    refuse NotX86 1
 
 -- how many bytes there are up to and with the next quote
 unfoldable pub quote_end : List ℕ → Option ℕ
@@ -146,4 +157,8 @@ item_at b next =
 unfoldable pub head : ℕ → ℕ → Spot → List ℕ → Result Rest Refusal
 head last skip at [] = refuse Header last
 head last (suc skip) at (b ∷ bs) = head last skip (after_byte at b) bs
-head last zero at (b ∷ bs) = elim (item_at b bs) [ Skipped n ↦ head last n (after_byte at b) bs | Opens ↦ Ok (rest_at (after_byte at b) bs) | Unknown ↦ refuse Header at.line ]
+head last zero at (b ∷ bs) = elim (item_at b bs) [
+  | Skipped n ↦ head last n (after_byte at b) bs
+  | Opens ↦ Ok (rest_at (after_byte at b) bs)
+  | Unknown ↦ refuse Header at.line
+]

@@ -49,11 +49,14 @@ pub data Items (last : ℕ) : List Lexeme → Result (List Lexeme) Refusal → T
   -- no item ends any more
   unended : {ts : List Lexeme} → IsTrue (list_all is_inside ts) → Items last ts (refuse Initial last)
   -- an item with a kind, judged at its end
-  refused : (item : List Lexeme) (t : Lexeme) (rest : List Lexeme) (e : Refusal) → IsTrue (list_all is_inside item) → IsTrue (ends_item t) → Item item (Err e) → Items last (item ++ t ∷ rest) (Err e)
+  refused : (item : List Lexeme) (t : Lexeme) (rest : List Lexeme) (e : Refusal) → IsTrue (list_all is_inside item)
+      → IsTrue (ends_item t) → Item item (Err e) → Items last (item ++ t ∷ rest) (Err e)
   -- the last item, before the closing brace
-  closed : (item : List Lexeme) (t : Lexeme) (rest : List Lexeme) → IsTrue (list_all is_inside item) → IsTrue (is RightBrace t) → Item item (Ok tt) → Items last (item ++ t ∷ rest) (Ok rest)
+  closed : (item : List Lexeme) (t : Lexeme) (rest : List Lexeme) → IsTrue (list_all is_inside item)
+      → IsTrue (is RightBrace t) → Item item (Ok tt) → Items last (item ++ t ∷ rest) (Ok rest)
   -- an item before a `;`
-  another : (item : List Lexeme) (t : Lexeme) (rest : List Lexeme) {r : Result (List Lexeme) Refusal} → IsTrue (list_all is_inside item) → IsTrue (is Semi t) → Item item (Ok tt)
+  another : (item : List Lexeme) (t : Lexeme) (rest : List Lexeme) {r : Result (List Lexeme) Refusal}
+      → IsTrue (list_all is_inside item) → IsTrue (is Semi t) → Item item (Ok tt)
       → Items last rest r → Items last (item ++ t ∷ rest) r
 
 -- ---- the same as functions

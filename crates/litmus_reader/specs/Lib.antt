@@ -3,7 +3,7 @@ pub mod Front
 pub mod Initial
 pub mod Rows
 pub mod Condition
-pub mod Nesting
+pub mod Expression
 pub mod Reading
 pub mod Answered
 pub mod Outcome

@@ -9,7 +9,8 @@ use Rattle.litmus_reader.specs.declared.condition.Step.{Step as StepAt}
 use Rattle.litmus_reader.specs.declared.condition.Step.TheVariants as steps
 use Rattle.litmus_reader.specs.declared.condition.Joined.{Joined as JoinedAt}
 use Rattle.litmus_reader.specs.Answer.{Refusal, refuse}
-use Rattle.litmus_reader.specs.Condition.{atom_slots, Place, AtTerm, BehindTerm, InAtom, Step, Goes, Parts, Ends, Fails, Joined}
+use Rattle.litmus_reader.specs.Condition.{atom_slots, Joined}
+use Rattle.litmus_reader.specs.Expression.{Place, AtTerm, BehindTerm, InAtom, Step, Goes, Parts, Ends, Fails}
 
 -- what a function returned, seen by view, is what is read, unless memory ran out
 abbrev pub Refuses : {Y : Type 0} → LitmusError → Result Y Refusal → Type 0

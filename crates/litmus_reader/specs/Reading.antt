@@ -10,11 +10,19 @@ use Rattle.litmus_reader.specs.Answer.{Refusal, Answer, Accepted, Refused, Over,
 use Rattle.litmus_reader.specs.Front.{Rest, FirstLine, first_line, Head, head}
 use Rattle.litmus_reader.specs.Initial.{Items, items}
 use Rattle.litmus_reader.specs.Rows.{Columns, columns_at, Rows, rows_at}
-use Rattle.litmus_reader.specs.Condition.{Section, section_at, Quantified, quantifier_at, Joined, outermost, Term, expression_at, AtTerm}
+use Rattle.litmus_reader.specs.Condition.{Section, section_at, Quantified, quantifier_at, Term, none_read, Joined, in_a_row}
+use Rattle.litmus_reader.specs.Expression.{outermost, expression_at, AtTerm}
 
 -- the test of these sections
 abbrev pub test_of : List ℕ → cell.Threads → Quantifier → Joined → LitmusTest
-test_of name threads quantifier j = record { name = name; locations = threads.locations; bodies = threads.bodies; quantifier = quantifier; atoms = j.atoms; ends = j.ends }
+test_of name threads quantifier j = record {
+  name = name;
+  locations = threads.locations;
+  bodies = threads.bodies;
+  quantifier = quantifier;
+  atoms = j.atoms;
+  ends = j.ends;
+}
 
 -- the sections of the tokens behind the first brace
 abbrev pub Tokens : ℕ → List ℕ → List Lexeme → Result LitmusTest Refusal → Type 0
@@ -24,7 +32,7 @@ Tokens last name ts =
     Then (Rows last c.0 c.1) (λ s.
     Then (Section last s.1) (λ ts.
     Then (Quantified last ts) (λ q.
-    Then (Term last false outermost q.1) (λ j test. test ≡ Ok (test_of name s.0 q.0 j)))))))
+    Then (Term last false [] none_read q.1) (λ cs test. test ≡ Ok (test_of name s.0 q.0 (in_a_row cs))))))))
 
 -- the tokens behind the first brace
 pub data Cut (last : ℕ) (name : List ℕ) (rest : Rest) (r : Result LitmusTest Refusal) : Type 0 where
@@ -43,7 +51,8 @@ pub data Reads (text : List ℕ) : Answer → Type 0 where
   -- a section met a kind
   refused : (e : Refusal) → Sections text (Err e) → Reads text (Refused e)
   -- a whole test that passes a limit, the first one
-  over : (test : LitmusTest) (limit : Shape) → Sections text (Ok test) → limit_of test ≡ Some limit → Reads text (Over limit)
+  over : (test : LitmusTest) (limit : Shape) → Sections text (Ok test) → limit_of test ≡ Some limit
+      → Reads text (Over limit)
   -- a test
   accepted : (test : LitmusTest) → Sections text (Ok test) → limit_of test ≡ None → Reads text (Accepted test)
 
@@ -83,4 +92,5 @@ read_text text = answer_of (sections_at text)
 
 -- each text is read as one answer, and as no other
 abbrev pub OneReading : Type 0
-OneReading = (text : List ℕ) → Reads text (read_text text) × ((answer : Answer) → Reads text answer → read_text text ≡ answer)
+OneReading =
+    (text : List ℕ) → Reads text (read_text text) × ((answer : Answer) → Reads text answer → read_text text ≡ answer)

@@ -41,10 +41,12 @@ pub data Columns (last : ℕ) : List Lexeme → Result (Threads × List Lexeme) 
   -- the row of columns has no end
   unended : {ts : List Lexeme} → IsTrue (list_all is_no_semi ts) → Columns last ts (refuse Column last)
   -- a cell is not its column's name: the line of the `;`
-  wrong : (row : List Lexeme) (t : Lexeme) (rest : List Lexeme) → IsTrue (list_all is_no_semi row) → IsTrue (is Semi t) → IsFalse (are_columns 0 (cells row))
+  wrong : (row : List Lexeme) (t : Lexeme) (rest : List Lexeme) → IsTrue (list_all is_no_semi row) → IsTrue (is Semi t)
+      → IsFalse (are_columns 0 (cells row))
       → Columns last (row ++ t ∷ rest) (refuse Column t.line)
   -- as many threads as cells
-  columns : (row : List Lexeme) (t : Lexeme) (rest : List Lexeme) → IsTrue (list_all is_no_semi row) → IsTrue (is Semi t) → IsTrue (are_columns 0 (cells row))
+  columns : (row : List Lexeme) (t : Lexeme) (rest : List Lexeme) → IsTrue (list_all is_no_semi row)
+      → IsTrue (is Semi t) → IsTrue (are_columns 0 (cells row))
       → Columns last (row ++ t ∷ rest) (Ok (no_code (length (cells row)), rest))
 
 -- ---- one cell
@@ -55,25 +57,31 @@ body_of i s = slice_index_or s.bodies i empty_code
 
 -- the threads after a form in the column i
 abbrev pub threads_after : ℕ → Form → Threads → Code → Threads
-threads_after i form s code = record { locations = locations_after s.locations form; bodies = slice_set s.bodies i code }
+threads_after i form s code =
+    record { locations = locations_after s.locations form; bodies = slice_set s.bodies i code }
 
 -- the threads after a cell of the column i
 pub data Cell (i : ℕ) (s : Threads) (ts : List Lexeme) : Result Threads Refusal → Type 0 where
   -- nothing, for whatever cause: the line where the cell begins
   no_form : (e : InstrError) → Parses ts (Err e) → Cell i s ts (refuse Instruction (line_at 0 ts))
   -- a store or exchange of a register that holds a read, likewise
-  not_constant : (form : Form) → Parses ts (Ok form) → code_after s.locations form (body_of i s) ≡ None → Cell i s ts (refuse NotConstant (line_at 0 ts))
+  not_constant : (form : Form) → Parses ts (Ok form) → code_after s.locations form (body_of i s) ≡ None
+      → Cell i s ts (refuse NotConstant (line_at 0 ts))
   -- the form acts on its thread
-  acts : (form : Form) (code : Code) → Parses ts (Ok form) → code_after s.locations form (body_of i s) ≡ Some code → Cell i s ts (Ok (threads_after i form s code))
+  acts : (form : Form) (code : Code) → Parses ts (Ok form) → code_after s.locations form (body_of i s) ≡ Some code
+      → Cell i s ts (Ok (threads_after i form s code))
 
 -- the cells of a row, from the column i on
 pub data Cells : ℕ → Threads → List (List Lexeme) → Result Threads Refusal → Type 0 where
   -- all cells are read
   none : {i : ℕ} {s : Threads} → Cells i s [] (Ok s)
   -- the first cell with a kind
-  refused : {i : ℕ} {s : Threads} {cell : List Lexeme} {more : List (List Lexeme)} (e : Refusal) → Cell i s cell (Err e) → Cells i s (cell ∷ more) (Err e)
+  refused : {i : ℕ} {s : Threads} {cell : List Lexeme} {more : List (List Lexeme)} (e : Refusal) → Cell i s cell (Err e)
+      → Cells i s (cell ∷ more) (Err e)
   -- a cell, and then those right of it
-  one : {i : ℕ} {s : Threads} {cell : List Lexeme} {more : List (List Lexeme)} {r : Result Threads Refusal} (next : Threads) → Cell i s cell (Ok next) → Cells (suc i) next more r → Cells i s (cell ∷ more) r
+  one : {i : ℕ} {s : Threads} {cell : List Lexeme} {more : List (List Lexeme)} {r : Result Threads Refusal}
+      (next : Threads)
+      → Cell i s cell (Ok next) → Cells (suc i) next more r → Cells i s (cell ∷ more) r
 
 -- ---- the rows of code
 
@@ -91,7 +99,8 @@ pub data RowOf (line : ℕ) (s : Threads) (row : List Lexeme) : Result Threads R
   -- more or fewer cells than threads: the line of the `;`
   other_number : IsFalse (length (cells row) == length s.bodies) → RowOf line s row (refuse Column line)
   -- the cells in their order
-  read : {r : Result Threads Refusal} → IsTrue (length (cells row) == length s.bodies) → Cells 0 s (cells row) r → RowOf line s row r
+  read : {r : Result Threads Refusal} → IsTrue (length (cells row) == length s.bodies) → Cells 0 s (cells row) r
+      → RowOf line s row r
 
 -- `Rows last threads tokens answer`: a row begins here
 pub data Rows (last : ℕ) : Threads → List Lexeme → Result (Threads × List Lexeme) Refusal → Type 0 where
@@ -100,19 +109,24 @@ pub data Rows (last : ℕ) : Threads → List Lexeme → Result (Threads × List
   -- a token that ends the code; it stays
   ended : {s : Threads} {t : Lexeme} {ts : List Lexeme} → IsTrue (ends_code t) → Rows last s (t ∷ ts) (Ok (s, t ∷ ts))
   -- a row without an end
-  unended : {s : Threads} {t : Lexeme} {ts : List Lexeme} → IsFalse (ends_code t) → IsTrue (list_all is_no_semi (t ∷ ts)) → Rows last s (t ∷ ts) (refuse Column last)
+  unended : {s : Threads} {t : Lexeme} {ts : List Lexeme} → IsFalse (ends_code t)
+      → IsTrue (list_all is_no_semi (t ∷ ts)) → Rows last s (t ∷ ts) (refuse Column last)
   -- a row with a kind
-  refused : {s : Threads} (row : List Lexeme) (t : Lexeme) (rest : List Lexeme) (e : Refusal) → IsFalse (at_end row) → IsTrue (list_all is_no_semi row) → IsTrue (is Semi t)
+  refused : {s : Threads} (row : List Lexeme) (t : Lexeme) (rest : List Lexeme) (e : Refusal) → IsFalse (at_end row)
+      → IsTrue (list_all is_no_semi row) → IsTrue (is Semi t)
       → RowOf t.line s row (Err e) → Rows last s (row ++ t ∷ rest) (Err e)
   -- a row, and then the next
-  another : {s : Threads} (row : List Lexeme) (t : Lexeme) (rest : List Lexeme) (next : Threads) {r : Result (Threads × List Lexeme) Refusal} → IsFalse (at_end row) → IsTrue (list_all is_no_semi row) → IsTrue (is Semi t)
+  another : {s : Threads} (row : List Lexeme) (t : Lexeme) (rest : List Lexeme) (next : Threads)
+      {r : Result (Threads × List Lexeme) Refusal}
+      → IsFalse (at_end row) → IsTrue (list_all is_no_semi row) → IsTrue (is Semi t)
       → RowOf t.line s row (Ok next) → Rows last next rest r → Rows last s (row ++ t ∷ rest) r
 
 -- ---- the same as functions
 
 -- the threads of a first row
 abbrev pub columns_in : List Lexeme → Lexeme → List Lexeme → Result (Threads × List Lexeme) Refusal
-columns_in row t rest = if are_columns 0 (cells row) then Ok (no_code (length (cells row)), rest) else refuse Column t.line
+columns_in row t rest =
+    if are_columns 0 (cells row) then Ok (no_code (length (cells row)), rest) else refuse Column t.line
 
 -- the tokens of the first row so far, and then the others
 unfoldable pub columns_at : ℕ → List Lexeme → List Lexeme → Result (Threads × List Lexeme) Refusal
@@ -142,7 +156,8 @@ cells_at i s (cell ∷ more) = cell_at i s cell >>= λ next. cells_at (suc i) ne
 
 -- the threads after a row
 unfoldable pub row_of : ℕ → Threads → List Lexeme → Result Threads Refusal
-row_of line s row = let r = cells_at 0 s (cells row) in if length (cells row) == length s.bodies then r else refuse Column line
+row_of line s row =
+    let r = cells_at 0 s (cells row) in if length (cells row) == length s.bodies then r else refuse Column line
 
 -- the tokens of a row so far, and then the others
 unfoldable pub rows_at : ℕ → Threads → List Lexeme → List Lexeme → Result (Threads × List Lexeme) Refusal
@@ -150,7 +165,8 @@ rows_at last s [] [] = refuse Condition last
 rows_at last s (x ∷ row) [] = refuse Column last
 rows_at last s [] (t ∷ ts) =
     let longer = rows_at last s (t ∷ []) ts in
-    if ends_code t then Ok (s, t ∷ ts) else if is Semi t then row_of t.line s [] >>= (λ next. rows_at last next [] ts) else longer
+    if ends_code t then Ok (s, t ∷ ts) else
+    if is Semi t then row_of t.line s [] >>= (λ next. rows_at last next [] ts) else longer
 rows_at last s (x ∷ row) (t ∷ ts) =
     let longer = rows_at last s (x ∷ (row ++ t ∷ [])) ts in
     if is Semi t then row_of t.line s (x ∷ row) >>= (λ next. rows_at last next [] ts) else longer

@@ -2,7 +2,8 @@
 ghost use Rattle.std.specs.Prelude.{ℕ, List, ◌≡◌, ◌<◌, ◌≤◌, ◌+◌, ◌++◌, length, drop, false, IfOk, Ok, Err, if◌then◌else◌};
 ghost use Rattle.litmus_reader.specs.declared.kind.LitmusKind.TheVariants.{Disjunction};
 ghost use Rattle.x86_subset.specs.Form.{is, is_word, next_is, lexeme_of, lexemes, found_of, nothing_found};
-ghost use Rattle.litmus_reader.specs.Condition.{behind_close, opened_at, section_at, behind_tilde, quantifier_at, is_memory, atom_slots, in_atom, at_term, behind_term, step, filled, is_done, expression_at, AtTerm, outermost, opened_in, closed_in, may_or, behind_or, Parts, Fails};
+ghost use Rattle.litmus_reader.specs.Condition.{behind_close, opened_at, section_at, behind_tilde, quantifier_at, is_memory, atom_slots};
+ghost use Rattle.litmus_reader.specs.Expression.{in_atom, at_term, behind_term, step, filled, is_done, expression_at, AtTerm, outermost, opened_in, closed_in, may_or, behind_or, Parts, Fails};
 ghost use Rattle.litmus_reader.specs.Outcome.{Answers, place_of, step_of, joined_of};
 
 use crate::kind::{LitmusError, LitmusKind, bad};
@@ -258,7 +259,7 @@ fn at_or(bytes: &[u8], nest: Nest) -> Step
     }
 }
 
-#[tactic(auto, unfolding(crate::specs::Condition::behind_term))]
+#[tactic(auto, unfolding(crate::specs::Expression::behind_term))]
 fn behind_term(bytes: &[u8], mixed: bool, nest: Nest, t: &Token) -> Step
     ensures { step_of bytes.now result ≡ behind_term mixed nest (lexeme_of bytes.now t.now) }
 {
@@ -305,7 +306,7 @@ fn in_atom(bytes: &[u8], nest: Nest, filled: usize, t: &Token, found: Found) -> 
     Step::Fails(LitmusKind::Condition)
 }
 
-#[tactic(auto, unfolding(crate::specs::Condition::at_term))]
+#[tactic(auto, unfolding(crate::specs::Expression::at_term))]
 fn at_term(bytes: &[u8], joined: bool, nest: Nest, t: &Token, next: &[Token]) -> Step
     ensures { step_of bytes.now result ≡ at_term joined nest (lexeme_of bytes.now t.now) (lexemes bytes.now next.now) }
 {

@@ -4,8 +4,7 @@
 //! section. The clauses `reads` and `refuses` of `read_litmus` say that its answer is what the text is read as, and the
 //! clause `only` that the text is read as nothing else; want of memory alone is free. The clause of `one_reading` says
 //! that each text, of any length, is read as exactly one answer. The clause of `names_are_ascii` says that a text that is
-//! read as a test names it and its locations in ASCII. `nests_are_parentheses` says that the four numbers that are kept
-//! of the open parentheses of a condition tell what the rules on `/\` and `\/` ask of them.
+//! read as a test names it and its locations in ASCII.
 #![tactic(auto)]
 
 mod condition;
@@ -16,7 +15,6 @@ mod reader;
 mod rows;
 
 ghost use Rattle.litmus_reader.specs.Answered.{NamesAreAscii};
-ghost use Rattle.litmus_reader.specs.Nesting.{NestsAreParentheses};
 ghost use Rattle.litmus_reader.specs.Reading.{OneReading};
 
 pub use kind::{LitmusError, LitmusKind};
@@ -30,11 +28,6 @@ pub fn one_reading()
 /// A text that is read as a test names it and its locations in ASCII.
 pub fn names_are_ascii()
     ensures { NamesAreAscii }
-{}
-
-/// The numbers that are kept of the open parentheses tell what the rules on `/\` and `\/` ask.
-pub fn nests_are_parentheses()
-    ensures { NestsAreParentheses }
 {}
 
 #[cfg(test)]

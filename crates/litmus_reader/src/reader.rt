@@ -14,10 +14,10 @@ use crate::condition::{Joined, expression, quantifier, section};
 use crate::front::{first_line, head};
 use crate::initial::items;
 use crate::kind::LitmusError;
-use crate::rows::{Sheet, columns, text_at};
+use crate::rows::{Sheet, columns};
 use perp_base::{Name, NoMemory};
 use std::alloc::Global;
-use x86_subset::{Quantifier, Span, Test, Token, line_behind, tokens};
+use x86_subset::{Quantifier, Span, Test, Token, line_behind, text_at, tokens};
 
 /// A test as it was read.
 #[derive(Drop)]

@@ -12,22 +12,13 @@ use crate::condition::is_word;
 use crate::initial::line_at;
 use crate::kind::{LitmusError, LitmusKind, bad};
 use std::alloc::{AllocError, Global};
-use x86_subset::{Body, Instr, Raw, Span, Token, TokenKind, is, parse_instr};
+use x86_subset::{Body, Instr, Raw, Span, Token, TokenKind, is, parse_instr, text_at};
 
 /// The threads, as far as they are read.
 #[derive(Drop)]
 pub struct Sheet {
     pub locations: Vec<Span>,
     pub bodies: Vec<Body>,
-}
-
-/// The bytes that a span names.
-pub fn text_at(bytes: &[u8], s: Span) -> &[u8]
-    ensures { result.now ≡ bytes_at bytes.now s }
-{
-    let to = (s.to as usize).min(bytes.len());
-    let from = (s.from as usize).min(to);
-    &bytes[from..to]
 }
 
 /// Where a location of these bytes stands among the others.

@@ -1,4 +1,5 @@
--- What ties a test's counters and the logs to the test and to its runs.
+-- What ties a test's counters and the logs to the test and to its runs. The counters are PerpLE's (Melissaris,
+-- Markakis, Shaw and Martonosi, MICRO 2020); how they are kept together is this project's own.
 use Rattle.std.specs.Prelude.{◌≡◌, ℕ, ◌≤◌, List, length, true}
 use Rattle.x86_subset.specs.Test.{LitmusTest}
 use Rattle.seq_conv.specs.Numbers.{AreOf}

@@ -1,4 +1,4 @@
--- Which refusal is due for a litmus text by its form and its shape, and for a test by its profile.
+-- Which refusal is due for a litmus text by its form and its shape, and for a test by its profile. This project's own.
 use Rattle.std.specs.Prelude.{◌≡◌, ℕ, List, Option, Some, None}
 use Rattle.x86_subset.specs.declared.test.Shape.{Shape}
 use Rattle.x86_subset.specs.declared.test.Shape.TheVariants as shape

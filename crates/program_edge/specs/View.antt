@@ -1,4 +1,4 @@
--- What is seen of a source or a sink: its bytes, where they are told, and its count of faults.
+-- What is seen of a source or a sink: its bytes, where they are told, and its count of faults. This project's own.
 use Rattle.std.specs.Prelude.{◌≡◌, ℕ, List, ◌⊎◌}
 use Rattle.std.specs.declared.option.Option.{Option}
 use Rattle.std.specs.Io.KnownBytes.{Appends}

@@ -1,6 +1,7 @@
 // The forms that tokens may have.
 ghost use Rattle.std.specs.Prelude.{ℕ, List, ◌≡◌, ◌==◌, ◌≤◌, ◌<◌, ◌+◌, ◌-◌, ◌^◌, length, take, drop, map, min, Result, Ok, Err, Some, None, option_map, if◌then◌else◌};
 ghost use Rattle.std.specs.List.{list_all, zip};
+ghost use Rattle.x86_subset.specs.Raw.{bytes_at};
 ghost use Rattle.x86_subset.specs.Form.{is, is_keyword, is_location, register_named, number_in, small_number_in, place_of, kind_code, capital, register_of, letters, value, capped_number, spells, fill, may_miss, fit, lexeme_of, lexemes, found_of, nothing_found, nothing_at, whole, Fills, fill_first, Gives};
 
 use crate::instr::Reg;
@@ -53,13 +54,30 @@ pub struct Found {
     pub small: u32,
 }
 
+/// The bytes of a text from one place up to another.
+pub fn text_at(bytes: &[u8], s: Span) -> &[u8]
+    ensures { result.now ≡ bytes_at bytes.now s }
+{
+    let to = (s.to as usize).min(bytes.len());
+    let from = (s.from as usize).min(to);
+    &bytes[from..to]
+}
+
+/// Where the token stands in the text.
+fn span_of(t: &Token) -> Span
+    ensures { result ≡ place_of t.now }
+{
+    Span {
+        from: t.from,
+        to: t.to,
+    }
+}
+
 /// The token's bytes in the text.
 pub fn spelled<'a>(bytes: &'a [u8], t: &Token) -> &'a [u8]
     ensures { result.now ≡ take (t.now.to - t.now.from) (drop t.now.from bytes.now) }
 {
-    let to = (t.to as usize).min(bytes.len());
-    let from = (t.from as usize).min(to);
-    &bytes[from..to]
+    text_at(bytes, span_of(t))
 }
 
 #[tactic(auto, unfolding(crate::specs::Form::capital))]
@@ -150,10 +168,7 @@ fn location(bytes: &[u8], t: &Token) -> Option<Span>
     ensures { result ≡ (if is_location (lexeme_of bytes.now t.now) then Some (place_of t.now) else None) }
 {
     if is(TokenKind::Name, t) && Reg::of(spelled(bytes, t)).is_none() {
-        Some(Span {
-            from: t.from,
-            to: t.to,
-        })
+        Some(span_of(t))
     } else {
         None
     }

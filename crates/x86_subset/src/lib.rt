@@ -20,7 +20,7 @@ mod token;
 
 pub use body::{Body, Held};
 pub use cell::{InstrError, Raw, parse_instr};
-pub use form::{Found, Keyword, Slot, Span, fit, is, spelled, whole};
+pub use form::{Found, Keyword, Slot, Span, fit, is, spelled, text_at, whole};
 pub use instr::{Instr, Reg};
 pub use laws::{conjunctions_have_the_atoms, one_cut, one_parse};
 pub use lex::{close_end, is_blank, is_letter, is_next, line_behind, next_line, tokens};
