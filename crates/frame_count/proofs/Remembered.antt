@@ -1,12 +1,12 @@
 -- Rows with the same stretches, where what these leave to test is the same in each row.
-use Rattle.std.proofs.Common.{◌≡◌, ℕ, zero, suc, ◌+◌, ◌-◌, ◌<◌, ◌≤◌, ◌&&◌, ◌||◌, ◌∙◌, Bool, List, [], ◌∷◌, count_by, false, get_or, length, map, refl, sym, ap, arith}
+use Rattle.std.proofs.Common.{◌≡◌, ℕ, zero, suc, ◌+◌, ◌-◌, ◌<◌, ◌≤◌, ◌&&◌, ◌||◌, ◌∙◌, Bool, List, count_by, false, get_or, length, map, refl, sym, ap, arith}
 use Rattle.std.specs.List.{list_all, list_any, range_with_len}
 use Rattle.x86_subset.specs.Conjunctions.{conjunction_of, conjunctions_of}
 use Rattle.load_log.specs.Values.{Values}
 use Rattle.outcome_conv.specs.Conditions.{Conditions}
 use Rattle.frame_count.specs.Count.{IsFrameOf, frame_holds, with_last}
 use Rattle.frame_count.specs.Counted.{Counts, LeaveSteady}
-use Rattle.frame_count.specs.Row.{Leaves, holds_along, is_within, left_along}
+use Rattle.frame_count.specs.Row.{Leaves, holds_along, is_within}
 use Rattle.frame_count.specs.declared.counted.Counted.{Counted}
 use Rattle.frame_count.specs.declared.stretch.Stretch.{Stretch}
 use Rattle.frame_count.proofs.Counts.{count_moved}

@@ -1,4 +1,4 @@
-use Rattle.std.proofs.Common.{◌≡◌, ℕ, ◌<◌, ◌≤◌, slice_index}
+use Rattle.std.proofs.Common.{ℕ, ◌<◌, ◌≤◌, slice_index}
 use Rattle.frame_count.proofs.known.least_and_most.Given as goal
 
 abbrev pub invariant-loop-i : goal.invariant-loop-i

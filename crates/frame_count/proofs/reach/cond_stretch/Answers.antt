@@ -1,4 +1,4 @@
-use Rattle.std.proofs.Common.{◌≡◌, ◌-◌, ◌≤◌, ◌==◌, ◌<◌, ◌&&◌, ℕ, true, length, not, ap, ◌∙◌, arith}
+use Rattle.std.proofs.Common.{◌≡◌, ◌-◌, ◌≤◌, ◌==◌, ◌<◌, ◌&&◌, ℕ, true, length, arith}
 use Rattle.frame_count.specs.Row.{holds_along, is_within, left_along}
 use Rattle.load_log.specs.Values.{value_at}
 use Rattle.outcome_conv.specs.Conds.{kind_holds}

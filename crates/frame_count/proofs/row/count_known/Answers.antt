@@ -1,4 +1,4 @@
-use Rattle.std.proofs.Common.{◌≡◌, ℕ, ◌+◌, ◌-◌, ◌*◌, ◌/◌, ◌%◌, ◌<◌, ◌≤◌, Bool, count_by, false, get_or, length, min, slice_index, sym, ap, ◌∙◌, arith}
+use Rattle.std.proofs.Common.{◌≡◌, ℕ, ◌+◌, ◌-◌, ◌*◌, ◌/◌, ◌%◌, ◌<◌, ◌≤◌, Bool, false, get_or, min, slice_index, sym, ap, ◌∙◌, arith}
 use Rattle.load_log.specs.Values.{value_at}
 use Rattle.frame_count.specs.Count.{frame_holds, with_last}
 use Rattle.frame_count.specs.Row.{bound_of, kind_test}

@@ -1,9 +1,8 @@
-use Rattle.std.proofs.Common.{◌≡◌, ℕ, ap, subst, sym, ◌∙◌}
+use Rattle.std.proofs.Common.{ap, subst, sym, ◌∙◌}
 use Rattle.std.proofs.lemmas.Option.{IfSome_then}
 use Rattle.outcome_conv.specs.declared.cond.CondKind.{CondKind}
 use Rattle.frame_count.specs.Known.{Knows}
 use Rattle.frame_count.specs.Row.{kind_test, mask_along}
-use Rattle.frame_count.specs.declared.known.Word.{Word}
 use Rattle.frame_count.proofs.Knowing.{at_least_by_side, below_by_side, exact_by_side}
 use Rattle.frame_count.proofs.known.Word.passing.Goals as goal
 
