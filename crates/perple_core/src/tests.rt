@@ -5,6 +5,7 @@ use super::*;
 use demo_text::demo_text;
 use perp_base::{MemSink, MemSource};
 use std::alloc::Global;
+use std::process::Abort;
 use std::test::Fail;
 use std::thread::Threads;
 
@@ -12,6 +13,9 @@ const SB: &str =
     "X86 SB\n{ x=0; y=0; }\n P0 | P1 ;\n MOV [x],$1 | MOV [y],$1 ;\n MOV EAX,[y] | MOV EAX,[x] ;\nexists (0:EAX=0 /\\ 1:EAX=0)\n";
 
 const ONE: &str = "X86 ONE\n{ }\n P0 ;\n MOV [x],$1 ;\n MOV EAX,[x] ;\nexists (0:EAX=1)\n";
+
+const OWN: &str =
+    "X86 OWN\n{ }\n P0 | P1 ;\n MOV [x],$1 | MOV [y],$1 ;\n MOV EAX,[x] | MOV EAX,[y] ;\nexists (0:EAX=1 /\\ 1:EAX=1)\n";
 
 const SBF: &str =
     "X86 SBF\n{ }\n P0 | P1 ;\n MOV [x],$1 | MOV [y],$1 ;\n MFENCE | MFENCE ;\n MOV EAX,[y] | MOV EAX,[x] ;\n~exists (0:EAX=0 /\\ 1:EAX=0)\n";
@@ -35,7 +39,7 @@ const DIY: &str =
     "X86 SB\n\"Fre PodWR Fre PodWR\"\nPrefetch=0:x=F,0:y=T,1:y=F,1:x=T\nCom=Fr Fr\nOrig=Fre PodWR Fre PodWR\n{\n}\n P0          | P1          ;\n MOV [x],$1  | MOV [y],$1  ;\n             |             ;\n MOV EAX,[y] | MOV EAX,[x] ;\nlocations [x; y;]\nexists (0:EAX=0 /\\ 1:EAX=0)\n";
 
 // The words, the input, the number of the status, and what is written to both sinks.
-const ROWS: [(&str, &str, u8, &str, &str); 21] = [
+const ROWS: [(&str, &str, u8, &str, &str); 23] = [
     (
         "replay 1 --rate 0 --count both",
         SB,
@@ -113,7 +117,13 @@ const ROWS: [(&str, &str, u8, &str, &str); 21] = [
         "Test BUF\nThreads 1\nIterations 1\nCondition exists 1\nFrames 1\nExhaustive 1\nSeen yes\n",
         "",
     ),
-    ("run 1000", IRIW, 7, "", "perple: limit frames 4294967296\n"),
+    (
+        "replay 1 --rate 0 --buffer 8",
+        BUF,
+        0,
+        "Test BUF\nThreads 1\nIterations 1\nCondition exists 1\nFrames 1\nExhaustive 1\nSeen yes\n",
+        "",
+    ),
     (
         "run 1000 --count heuristic",
         IRIW,
@@ -133,6 +143,13 @@ const ROWS: [(&str, &str, u8, &str, &str); 21] = [
         MP,
         0,
         "Test MP\nThreads 2\nStore P0 0 x value 1*n+1\nStore P0 1 y value 1*n+1\nRead P1 0 y column 0\nRead P1 1 x column 1\nAtom 1 exact P1 column 0 from P0: value = 1*m+1\nAtom 2 fr P1 column 1 from P0: value < 1*m+1\n",
+        "",
+    ),
+    (
+        "convert",
+        OWN,
+        0,
+        "Test OWN\nThreads 2\nStore P0 0 x value 1*n+1\nStore P1 0 y value 1*n+1\nRead P0 1 x column 0\nRead P1 1 y column 0\nAtom 1 rf P0 column 0 from P0: value >= 1*m+1, value mod 1 = 0\nAtom 2 rf P1 column 0 from P1: value >= 1*m+1, value mod 1 = 0\n",
         "",
     ),
     (
@@ -165,6 +182,13 @@ const ROWS: [(&str, &str, u8, &str, &str); 21] = [
         "",
     ),
     (
+        "replay 1 --rate 0 --count both",
+        "X86 SB\n{ x=0; y=0; }\n P0 | P1 ;\n MOV [x],$1 | MOV [y],$1 ;\n MOV EAX,[y] | MOV EAX,[x] ;\nexists (0:EAX=0 /\\ 1:EAX=0) \\/ (1:EAX=0 /\\ 0:EAX=0)\n",
+        0,
+        "Test SB\nThreads 2\nIterations 1\nCondition exists 4\nFrames 1\nExhaustive 1\nHeuristic 1\nHit 0 0\nSeen yes\n",
+        "",
+    ),
+    (
         "walk 5",
         SB,
         2,
@@ -172,6 +196,32 @@ const ROWS: [(&str, &str, u8, &str, &str); 21] = [
         "perple: usage: perple COMMAND [N] [OPTIONS]\n",
     ),
 ];
+
+// The most bytes that a call may write: 100,000 lines of hits of two threads.
+const ROOM: usize = 2_097_152;
+
+// The number of the call of the source, of the output and of the error sink that fails. Calls are numbered from 1.
+#[derive(Clone, Copy)]
+struct Failing {
+    read: u64,
+    write: u64,
+    line: u64,
+}
+
+const NEVER: Failing = Failing {
+    read: 0,
+    write: 0,
+    line: 0,
+};
+
+// How a call ended, what it wrote to both sinks, and the first two words of the field.
+#[derive(Drop)]
+struct Ran {
+    status: Status,
+    out: Vec<u8>,
+    err: Vec<u8>,
+    words: (u64, u64),
+}
 
 // The words of a line, which stand between single spaces; an empty line has none.
 fn words_of(alloc: Global, line: &str) -> Result<Vec<String>, Fail> {
@@ -185,36 +235,19 @@ fn words_of(alloc: Global, line: &str) -> Result<Vec<String>, Fail> {
     Ok(words)
 }
 
-// Which calls of the source, of the output and of the error sink fail.
-#[derive(Clone, Copy)]
-struct Failing<'a> {
-    reads: &'a [u64],
-    writes: &'a [u64],
-    lines: &'a [u64],
-}
-
-// How a call ended, what it wrote to both sinks, and the first two words of the field.
-#[derive(Drop)]
-struct Ran {
-    status: Status,
-    out: Vec<u8>,
-    err: Vec<u8>,
-    words: (u64, u64),
-}
-
 // A call over a source and sinks that move at most 16 bytes at a time.
-fn call_failing<R: Threads + Sync, G: Gate>(
+fn call_at<R: Threads + Sync, G: Gate>(
     rt: &R,
     alloc: Global,
     line: &str,
     text: &[u8],
-    failing: Failing<'_>,
+    failing: Failing,
     gate: &G,
 ) -> Result<Ran, Fail> {
     let words = words_of(alloc, line)?;
-    let mut source = MemSource::new(alloc, text, 16, failing.reads)?;
-    let mut out = MemSink::new(alloc, 65536, 16, failing.writes)?;
-    let mut err = MemSink::new(alloc, 128, 16, failing.lines)?;
+    let mut source = MemSource::new(alloc, text, 16, &[failing.read])?;
+    let mut out = MemSink::new(alloc, ROOM, 16, &[failing.write])?;
+    let mut err = MemSink::new(alloc, 128, 16, &[failing.line])?;
     let field = Field::new(alloc)?;
     let outcome = perple(
         rt,
@@ -236,12 +269,14 @@ fn call_failing<R: Threads + Sync, G: Gate>(
 
 // A call in which nothing fails.
 fn call<R: Threads + Sync>(rt: &R, alloc: Global, line: &str, text: &[u8]) -> Result<Ran, Fail> {
-    let never = Failing {
-        reads: &[],
-        writes: &[],
-        lines: &[],
-    };
-    call_failing(rt, alloc, line, text, never, &NoGate)
+    call_at(rt, alloc, line, text, NEVER, &NoGate)
+}
+
+// The call ended so, and wrote this to its sinks.
+fn assert_ended(rt: &impl Abort, ran: &Ran, at: &str, status: u8, out: &[u8], err: &str) {
+    assert_eq!(rt; ran.status.number(), status, "status at {at}");
+    assert_eq!(rt; ran.out.as_slice(), out, "output at {at}");
+    assert_eq!(rt; ran.err.as_slice(), err.as_bytes(), "line at {at}");
 }
 
 #[test]
@@ -249,13 +284,61 @@ fn rows_are_answered(rt: HostRuntime) -> Result<(), Fail> {
     let alloc = rt.alloc();
     for (line, text, status, out, err) in ROWS {
         let ran = call(&rt, alloc, line, text.as_bytes())?;
-        assert_eq!(rt; ran.status.number(), status, "status at {line}");
-        assert_eq!(rt; ran.out.as_slice(), out.as_bytes(), "output at {line}");
-        assert_eq!(rt; ran.err.as_slice(), err.as_bytes(), "line at {line}");
+        assert_ended(&rt, &ran, line, status, out.as_bytes(), err);
     }
-    let diy = call(&rt, alloc, "run 1000", DIY.as_bytes())?;
-    let front = "Test SB\nThreads 2\nIterations 1000\nCondition exists 2\nFrames 1000000\n";
-    assert!(rt; diy.status.number() == 0 && diy.out.starts_with(front.as_bytes()));
+    Ok(())
+}
+
+// The words, the input, and how the report begins, of which the rest is that of the run: also for each line in whose place
+// the format takes another one.
+const STARTS: [(&str, &str, &str); 7] = [
+    (
+        "run 1000",
+        DIY,
+        "Test SB\nThreads 2\nIterations 1000\nCondition exists 2\nFrames 1000000\nExhaustive ",
+    ),
+    (
+        "run 100000 --count heuristic",
+        DIY,
+        "Test SB\nThreads 2\nIterations 100000\nCondition exists 2\nHeuristic ",
+    ),
+    (
+        "run 1",
+        "X86 SB\n{ int x=0; [y]=0; 0:EAX=0; }\n P0 | P1 ;\n MOV [x],$1 | MOV [y],$1 ;\n MOV EAX,[y] | MOV EAX,[x] ;\nexists (0:EAX=0 /\\ 1:EAX=0)\n",
+        "Test SB\nThreads 2\nIterations 1\nCondition exists 2\nFrames 1\nExhaustive ",
+    ),
+    (
+        "run 1",
+        "X86 SB\n{ x=0; y=0; }\n P0 | P1 ;\nmov [x],1 | Mov [y],$1 ;\n MOV EAX,[y] | MOV EAX,[x] ;\nexists (0:EAX=0 /\\ 1:EAX=0)\n",
+        "Test SB\nThreads 2\nIterations 1\nCondition exists 2\nFrames 1\nExhaustive ",
+    ),
+    (
+        "run 1",
+        "X86 SB\n{ x=0; y=0; }\n P0 | P1 ;\n MOV [x],$1 | MOV [y],$1 ;\n MOV EAX,[y] | MOV EAX,[x] ;\nexists 0:EAX=0 /\\ (1:eax=0)\n",
+        "Test SB\nThreads 2\nIterations 1\nCondition exists 2\nFrames 1\nExhaustive ",
+    ),
+    (
+        "run 1",
+        "X86 SB\n{ x=0; y=0; }\n P0 | P1 ;\n MOV [x],$1 | MOV [y],$1 ;\n MOV EAX,[y] | MOV EAX,[x] ;\nexists (0:EAX=0 \\/ 1:EAX=0)\n",
+        "Test SB\nThreads 2\nIterations 1\nCondition exists 2\nFrames 1\nExhaustive ",
+    ),
+    (
+        "run 1",
+        "X86 SB\n{ x=0; y=0; }\n P0 | P1 ;\n MOV [x],$1 | MOV [y],$1 ;\n MOV EAX,[y] | MOV EAX,[x] ;\nexists (0:EAX=0 /\\ 1:EAX=0)\n(* end *)\n",
+        "Test SB\nThreads 2\nIterations 1\nCondition exists 2\nFrames 1\nExhaustive ",
+    ),
+];
+
+#[test]
+fn reports_begin_with_what_was_asked(rt: HostRuntime) -> Result<(), Fail> {
+    let alloc = rt.alloc();
+    for (line, text, front) in STARTS {
+        let ran = call(&rt, alloc, line, text.as_bytes())?;
+        assert!(rt;
+            ran.status.number() == 0 && ran.out.starts_with(front.as_bytes()),
+            "{line} at {text}"
+        );
+    }
     Ok(())
 }
 
@@ -286,108 +369,130 @@ fn status_of_prefix(len: usize) -> Status {
     Status::Whole
 }
 
-/// Each prefix of SB, and a text that is one byte too long.
 #[test]
-fn cut_and_long_texts_are_refused(rt: HostRuntime) -> Result<(), Fail> {
+fn prefixes_are_refused(rt: HostRuntime) -> Result<(), Fail> {
     let alloc = rt.alloc();
     let sb = SB.as_bytes();
     for len in 0..=sb.len() {
         let ran = call(&rt, alloc, "replay 1 --rate 0", &sb[..len])?;
-        assert_eq!(rt; ran.status, status_of_prefix(len), "at {len}");
-        assert_eq!(rt; ran.out.is_empty(), len < 115, "at {len}");
+        let answer = (ran.status, ran.out.is_empty());
+        assert_eq!(rt; answer, (status_of_prefix(len), len < 115), "at {len}");
     }
-    let long = [b' '; 65537];
-    let ran = call(&rt, alloc, "run 1", &long)?;
-    assert_eq!(rt;
-        ran.err.as_slice(),
-        b"perple: limit input 65536\n".as_slice()
-    );
     Ok(())
 }
 
-// The number of the status of a replay of SB in which these calls fail, and how many bytes stand on the output.
-fn faulty<R: Threads + Sync>(
-    rt: &R,
-    alloc: Global,
-    reads: &[u64],
-    writes: &[u64],
-) -> Result<(u8, usize), Fail> {
-    let failing = Failing {
-        reads,
-        writes,
-        lines: &[],
-    };
-    let ran = call_failing(
-        rt,
-        alloc,
-        "replay 1 --rate 0",
-        SB.as_bytes(),
-        failing,
-        &NoGate,
-    )?;
-    Ok((ran.status.number(), ran.out.len()))
+#[test]
+fn a_long_text_is_refused(rt: HostRuntime) -> Result<(), Fail> {
+    let long = [b' '; 65537];
+    let ran = call(&rt, rt.alloc(), "run 1", &long)?;
+    assert_ended(&rt, &ran, "blanks", 7, b"", "perple: limit input 65536\n");
+    Ok(())
 }
 
-/// Each call of the source, and each of the output, fails in turn.
+// Which call of the source and of the output fails in a replay of SB, the number of the status, and how many bytes are written.
+const FAILING: [(u64, u64, u8, usize); 17] = [
+    (1, 0, 3, 0),
+    (2, 0, 3, 0),
+    (3, 0, 3, 0),
+    (4, 0, 3, 0),
+    (5, 0, 3, 0),
+    (6, 0, 3, 0),
+    (7, 0, 3, 0),
+    (8, 0, 3, 0),
+    (9, 0, 3, 0),
+    (118, 0, 0, 81),
+    (0, 1, 4, 0),
+    (0, 2, 4, 16),
+    (0, 3, 4, 32),
+    (0, 4, 4, 48),
+    (0, 5, 4, 64),
+    (0, 6, 4, 80),
+    (0, 7, 0, 81),
+];
+
 #[test]
 fn each_call_may_fail(rt: HostRuntime) -> Result<(), Fail> {
     let alloc = rt.alloc();
-    for call in 1..10u64 {
-        assert_eq!(rt; faulty(&rt, alloc, &[call], &[])?, (3, 0), "read {call}");
+    for (read, write, status, written) in FAILING {
+        let failing = Failing {
+            read,
+            write,
+            line: 0,
+        };
+        let ran = call_at(
+            &rt,
+            alloc,
+            "replay 1 --rate 0",
+            SB.as_bytes(),
+            failing,
+            &NoGate,
+        )?;
+        let answer = (ran.status.number(), ran.out.len());
+        assert_eq!(rt; answer, (status, written), "read {read} write {write}");
     }
-    assert_eq!(rt; faulty(&rt, alloc, &[118], &[])?, (0, 81));
-    for (call, written) in [(1, 0), (2, 16), (3, 32), (4, 48), (5, 64), (6, 80)] {
-        assert_eq!(rt;
-            faulty(&rt, alloc, &[], &[call])?,
-            (4, written),
-            "write {call}"
-        );
-    }
-    assert_eq!(rt; faulty(&rt, alloc, &[], &[7])?, (0, 81));
     Ok(())
 }
 
-/// What a fault leaves on the sinks and on the field.
+// The words, the input, which call of the source, of the output and of the error sink fails, the number of the status, what is
+// written to both sinks, and the first two words of the field.
+const LEAVES: [(&str, &str, (u64, u64, u64), u8, &str, &str, (u64, u64)); 6] = [
+    (
+        "run 3",
+        OWN,
+        (0, 0, 0),
+        0,
+        "Test OWN\nThreads 2\nIterations 3\nCondition exists 2\nFrames 9\nExhaustive 9\nSeen yes\n",
+        "",
+        (3, 3),
+    ),
+    (
+        "run 1000",
+        IRIW,
+        (0, 0, 0),
+        7,
+        "",
+        "perple: limit frames 4294967296\n",
+        (0, 0),
+    ),
+    // no step is made
+    (
+        "run 1",
+        SB,
+        (2, 0, 0),
+        3,
+        "",
+        "perple: reading failed\n",
+        (0, 0),
+    ),
+    // two pieces stand there, and the run is whole
+    (
+        "run 1",
+        SB,
+        (0, 3, 0),
+        4,
+        "Test SB\nThreads 2\nIterations 1\nC",
+        "perple: writing failed\n",
+        (1, 1),
+    ),
+    // the line of a refusal cannot be written: the status stays
+    ("", "", (0, 0, 1), 2, "", "", (0, 0)),
+    ("run 1", "", (0, 0, 1), 5, "", "", (0, 0)),
+];
+
+/// What a call leaves on its sinks and on the field, also where one of its calls fails.
 #[test]
-fn faults_end_a_call(rt: HostRuntime) -> Result<(), Fail> {
+fn calls_leave_a_field(rt: HostRuntime) -> Result<(), Fail> {
     let alloc = rt.alloc();
-    let sb = SB.as_bytes();
-
-    // The second read fails: no step is made.
-    let failing = Failing {
-        reads: &[2],
-        writes: &[],
-        lines: &[],
-    };
-    let read = call_failing(&rt, alloc, "run 1", sb, failing, &NoGate)?;
-    assert_eq!(rt; read.err.as_slice(), b"perple: reading failed\n".as_slice());
-    assert_eq!(rt; (read.out.len(), read.words), (0, (0, 0)));
-
-    // The third write fails: two pieces stand there, and the run is whole.
-    let failing = Failing {
-        reads: &[],
-        writes: &[3],
-        lines: &[],
-    };
-    let written = call_failing(&rt, alloc, "run 1", sb, failing, &NoGate)?;
-    assert_eq!(rt;
-        written.out.as_slice(),
-        b"Test SB\nThreads 2\nIterations 1\nC".as_slice()
-    );
-    assert_eq!(rt;
-        written.err.as_slice(),
-        b"perple: writing failed\n".as_slice()
-    );
-    assert_eq!(rt; written.words, (1, 1));
-
-    // The line of a refusal cannot be written: the status stays.
-    let failing = Failing {
-        reads: &[],
-        writes: &[],
-        lines: &[1],
-    };
-    let refused = call_failing(&rt, alloc, "", b"", failing, &NoGate)?;
-    assert_eq!(rt; (refused.status.number(), refused.err.len()), (2, 0));
+    for (line, text, (read, write, lost), status, out, err, words) in LEAVES {
+        let failing = Failing {
+            read,
+            write,
+            line: lost,
+        };
+        let ran = call_at(&rt, alloc, line, text.as_bytes(), failing, &NoGate)?;
+        assert_ended(&rt, &ran, line, status, out.as_bytes(), err);
+        assert_eq!(rt; ran.words, words, "field at {line}");
+    }
     Ok(())
 }
 
@@ -395,14 +500,18 @@ fn faults_end_a_call(rt: HostRuntime) -> Result<(), Fail> {
 #[test]
 fn a_demo_is_a_replay(rt: HostRuntime) -> Result<(), Fail> {
     let alloc = rt.alloc();
-    let once = call(&rt, alloc, "demo 7", b"")?;
-    let twice = call(&rt, alloc, "demo 7", b"")?;
-    assert_eq!(rt; once.out.as_slice(), twice.out.as_slice());
     let text = demo_text(alloc, 7)?;
-    let line = "replay 60 --seed 7 --count both --order 7";
-    let replay = call(&rt, alloc, line, &text)?;
-    assert!(rt; once.status.number() == 0 && once.out.starts_with(b"Demo 7\n"));
-    assert!(rt; once.out.ends_with(&replay.out));
-    assert_eq!(rt; once.out.len().checked_sub(7), Some(replay.out.len()));
+    let replay = call(
+        &rt,
+        alloc,
+        "replay 60 --seed 7 --count both --order 7",
+        &text,
+    )?;
+    let mut want = Vec::from_slice(alloc, b"Demo 7\n")?;
+    want.extend_from_slice(&replay.out)?;
+    for _ in 0..2 {
+        let demo = call(&rt, alloc, "demo 7", b"")?;
+        assert_ended(&rt, &demo, "demo 7", 0, &want, "");
+    }
     Ok(())
 }

@@ -71,42 +71,33 @@ impl Gate for Meeting {
     }
 }
 
-// The report of three iterations of both threads, if all calls came and none was missed.
-fn met<R: Threads + Sync>(rt: &R, alloc: Global, gate: &Meeting) -> Result<Vec<u8>, Fail> {
-    let never = Failing {
-        reads: &[],
-        writes: &[],
-        lines: &[],
-    };
-    let ran = call_failing(rt, alloc, "run 3", WRF.as_bytes(), never, gate)?;
-    if gate.is_passed() {
-        Ok(ran.out)
-    } else {
-        Ok(Vec::new(alloc))
-    }
-}
-
-// The report ends with nine frames and one of these counts.
-fn counts(report: &[u8], one: &str, other: &str) -> bool {
-    report.ends_with(one.as_bytes()) || report.ends_with(other.as_bytes())
-}
+// Which call each of the six looks for, and the two ways in which the report may end.
+const MEETINGS: [([Option<usize>; 6], &str, &str); 2] = [
+    // Two calls of each thread look for a call of the other one.
+    (
+        [Some(4), Some(5), None, None, Some(1), Some(2)],
+        "Frames 9\nExhaustive 6\nSeen yes\n",
+        "Frames 9\nExhaustive 5\nSeen yes\n",
+    ),
+    // The reader begins when the writer has done two iterations, and the writer ends when the reader has begun its last one.
+    (
+        [None, None, Some(5), Some(2), None, None],
+        "Frames 9\nExhaustive 3\nSeen yes\n",
+        "Frames 9\nExhaustive 2\nSeen yes\n",
+    ),
+];
 
 #[test]
 fn threads_meet(rt: HostRuntime) -> Result<(), Fail> {
     let alloc = rt.alloc();
-
-    // Two calls of each thread look for a call of the other one.
-    let gate = Meeting::new([Some(4), Some(5), None, None, Some(1), Some(2)]);
-    let report = met(&rt, alloc, &gate)?;
-    let six = "Frames 9\nExhaustive 6\nSeen yes\n";
-    let five = "Frames 9\nExhaustive 5\nSeen yes\n";
-    assert!(rt; counts(&report, six, five));
-
-    // The reader begins when the writer has done two iterations, and the writer ends when the reader has begun its last one.
-    let gate = Meeting::new([None, None, Some(5), Some(2), None, None]);
-    let report = met(&rt, alloc, &gate)?;
-    let three = "Frames 9\nExhaustive 3\nSeen yes\n";
-    let two = "Frames 9\nExhaustive 2\nSeen yes\n";
-    assert!(rt; counts(&report, three, two));
+    for (awaited, one, other) in MEETINGS {
+        let gate = Meeting::new(awaited);
+        let ran = call_at(&rt, alloc, "run 3", WRF.as_bytes(), NEVER, &gate)?;
+        let ends = ran.out.ends_with(one.as_bytes()) || ran.out.ends_with(other.as_bytes());
+        assert!(rt;
+            ran.status.number() == 0 && gate.is_passed() && ends,
+            "{one}"
+        );
+    }
     Ok(())
 }
