@@ -9,7 +9,7 @@ mod shown;
 
 use super::*;
 use perp_base::{Failed, MemSink, MemSource, Source};
-use rows::{JUDGED, SOUGHT};
+use rows::ROWS;
 use std::alloc::Global;
 use std::process::Abort;
 use std::test::Fail;
@@ -58,27 +58,27 @@ fn words_of(alloc: Global, line: &str) -> Result<Vec<String>, Fail> {
     Ok(words)
 }
 
-// How a call ended, what it wrote to both sinks, and the first two words of the field.
+// How a call ended, its sinks, and the first two words of the field.
 #[derive(Drop)]
 struct Called {
     status: ToolStatus,
-    out: Vec<u8>,
-    err: Vec<u8>,
+    out: MemSink,
+    err: MemSink,
     words: (u64, u64),
 }
 
-// Which calls of the source, of the output and of the error sink fail.
+// The number of the call of the source, of the output and of the error sink that fails. Calls are numbered from 1.
 #[derive(Clone, Copy)]
-struct Failing<'a> {
-    reads: &'a [u64],
-    writes: &'a [u64],
-    lines: &'a [u64],
+struct Failing {
+    read: u64,
+    write: u64,
+    line: u64,
 }
 
-const NEVER: Failing<'static> = Failing {
-    reads: &[],
-    writes: &[],
-    lines: &[],
+const NEVER: Failing = Failing {
+    read: 0,
+    write: 0,
+    line: 0,
 };
 
 // A call over sinks that move at most 16 bytes at a time.
@@ -87,19 +87,19 @@ fn call_on<R: Threads + Sync, S: Source>(
     alloc: Global,
     line: &str,
     source: &mut S,
-    failing: Failing<'_>,
+    failing: Failing,
 ) -> Result<Called, Fail> {
     let words = words_of(alloc, line)?;
-    let mut out = MemSink::new(alloc, 65536, 16, failing.writes)?;
-    let mut err = MemSink::new(alloc, 128, 16, failing.lines)?;
+    let mut out = MemSink::new(alloc, 65536, 16, &[failing.write])?;
+    let mut err = MemSink::new(alloc, 128, 16, &[failing.line])?;
     let field = Field::new(alloc)?;
     let outcome = tool(
         rt, alloc, &words, source, &mut out, &mut err, field, &NoGate,
     );
     Ok(Called {
         status: outcome.status,
-        out: Vec::from_slice(alloc, out.written())?,
-        err: Vec::from_slice(alloc, err.written())?,
+        out,
+        err,
         words: (outcome.done.word(0), outcome.done.word(1)),
     })
 }
@@ -110,17 +110,17 @@ fn call<R: Threads + Sync>(
     alloc: Global,
     line: &str,
     text: &[u8],
-    failing: Failing<'_>,
+    failing: Failing,
 ) -> Result<Called, Fail> {
-    let mut source = MemSource::new(alloc, text, 16, failing.reads)?;
+    let mut source = MemSource::new(alloc, text, 16, &[failing.read])?;
     call_on(rt, alloc, line, &mut source, failing)
 }
 
 // The call ended so, and wrote this to its sinks.
 fn assert_ended(rt: &impl Abort, called: &Called, at: &str, status: u8, out: &[u8], err: &str) {
     assert_eq!(rt; called.status.number(), status, "status at {at}");
-    assert_eq!(rt; called.out.as_slice(), out, "output at {at}");
-    assert_eq!(rt; called.err.as_slice(), err.as_bytes(), "line at {at}");
+    assert_eq!(rt; called.out.written(), out, "output at {at}");
+    assert_eq!(rt; called.err.written(), err.as_bytes(), "line at {at}");
 }
 
 // The text with a section behind it.
@@ -130,20 +130,28 @@ fn with_section(alloc: Global, text: &str, section: &str) -> Result<Vec<u8>, Fai
     Ok(input)
 }
 
+// A call in which nothing fails ends so, writes this to its sinks, and makes no step on the field.
+fn assert_answer<R: Threads + Sync + Abort>(
+    rt: &R,
+    alloc: Global,
+    line: &str,
+    input: &[u8],
+    status: u8,
+    out: &[u8],
+    err: &str,
+) -> Result<(), Fail> {
+    let called = call(rt, alloc, line, input, NEVER)?;
+    assert_ended(rt, &called, line, status, out, err);
+    assert_eq!(rt; called.words, (0, 0), "field at {line}");
+    Ok(())
+}
+
 #[test]
 fn rows_are_answered(rt: HostRuntime) -> Result<(), Fail> {
     let alloc = rt.alloc();
-    for (line, section, status, out, err) in JUDGED {
-        let input = with_section(alloc, SB, section)?;
-        let called = call(&rt, alloc, line, &input, NEVER)?;
-        assert_ended(&rt, &called, section, status, out.as_bytes(), err);
-        assert!(rt; called.words == (0, 0));
-    }
-    for (line, text, section, status, out, err) in SOUGHT {
+    for (line, text, section, status, out, err) in ROWS {
         let input = with_section(alloc, text, section)?;
-        let called = call(&rt, alloc, line, &input, NEVER)?;
-        assert_ended(&rt, &called, section, status, out.as_bytes(), err);
-        assert!(rt; called.words == (0, 0));
+        assert_answer(&rt, alloc, line, &input, status, out.as_bytes(), err)?;
     }
     Ok(())
 }
@@ -165,37 +173,28 @@ fn verdicts_are_given(rt: HostRuntime) -> Result<(), Fail> {
     let alloc = rt.alloc();
     for (text, front) in VERDICTS {
         let ran = call(&rt, alloc, "verdict", text.as_bytes(), NEVER)?;
-        assert_eq!(rt; ran.status.number(), 0, "status at {text}");
-        assert!(rt; ran.out.starts_with(front.as_bytes()), "output at {text}");
+        let begins = ran.out.written().starts_with(front.as_bytes());
+        assert_eq!(rt; (ran.status.number(), begins), (0, true), "at {text}");
     }
-    let outside = with_section(alloc, TWO_WRITERS, "exists (2:EAX=0)\n")?;
-    let ran = call(&rt, alloc, "verdict", &outside, NEVER)?;
-    assert_ended(
-        &rt,
-        &ran,
-        TWO_WRITERS,
-        6,
-        b"",
-        "perple: atom 1: kind 7 SeveralWriters\n",
-    );
     Ok(())
 }
 
 #[test]
 fn skews_are_told(rt: HostRuntime) -> Result<(), Fail> {
-    let alloc = rt.alloc();
-    let ran = call(&rt, alloc, "skew 3", OWN.as_bytes(), NEVER)?;
+    let ran = call(&rt, rt.alloc(), "skew 3", OWN.as_bytes(), NEVER)?;
     let rows =
         "Skew P0 1 initial 0 least 0 greatest 0 buckets 0 0 0 0 3 0 0 0 0\nSkew P1 1 initial 0 least 0 greatest 0 buckets 0 0 0 0 3 0 0 0 0\n";
-    assert_eq!(rt; ran.out.as_slice(), rows.as_bytes());
-    assert!(rt; ran.status.number() == 0 && ran.words == (3, 3));
-    let none = with_section(alloc, TWO_WRITERS, "exists (2:EAX=2)\n")?;
-    let ran = call(&rt, alloc, "skew 5", &none, NEVER)?;
-    assert!(rt; ran.status.number() == 0 && ran.out.is_empty() && ran.err.is_empty());
-    for line in ["skew", "skew 0", "skew 100001", "skew 3 3", "verdict 1", ""] {
-        let ran = call(&rt, alloc, line, OWN.as_bytes(), NEVER)?;
-        assert_eq!(rt; ran.status.number(), 2, "status at {line}");
-    }
+    assert_ended(&rt, &ran, "skew 3", 0, rows.as_bytes(), "");
+    assert_eq!(rt; ran.words, (3, 3));
+    Ok(())
+}
+
+#[test]
+fn reads_of_several_writers_have_no_skew(rt: HostRuntime) -> Result<(), Fail> {
+    let alloc = rt.alloc();
+    let input = with_section(alloc, TWO_WRITERS, "exists (2:EAX=2)\n")?;
+    let ran = call(&rt, alloc, "skew 5", &input, NEVER)?;
+    assert_ended(&rt, &ran, "skew 5", 0, b"", "");
     Ok(())
 }
 
@@ -222,11 +221,10 @@ fn found_runs_are_legal(rt: HostRuntime) -> Result<(), Fail> {
     for (line, text, section, legal, words) in FOUND {
         let input = with_section(alloc, text, section)?;
         let found = call(&rt, alloc, line, &input, NEVER)?;
-        assert!(rt; found.words == words, "field at {line}: {text}");
+        assert_eq!(rt; found.words, words, "field at {line}: {text}");
         let mut told = Vec::from_slice(alloc, text.as_bytes())?;
-        told.extend_from_slice(&found.out)?;
-        let judged = call(&rt, alloc, "judge", &told, NEVER)?;
-        assert_ended(&rt, &judged, text, 0, legal.as_bytes(), "");
+        told.extend_from_slice(found.out.written())?;
+        assert_answer(&rt, alloc, "judge", &told, 0, legal.as_bytes(), "")?;
     }
     Ok(())
 }
@@ -272,30 +270,38 @@ const GROWING: [(&str, u8, &str, &str); 7] = [
     ("P1 0 0 drain", 10, "perple: section line 13\n", "Legal 6\n"),
 ];
 
+// Each prefix of the text behind the input is answered so.
+fn assert_prefixes<R: Threads + Sync + Abort>(
+    rt: &R,
+    alloc: Global,
+    input: &[u8],
+    text: &[u8],
+    status: u8,
+    err: &str,
+) -> Result<(), Fail> {
+    for len in 1..text.len() {
+        let mut cut = Vec::from_slice(alloc, input)?;
+        cut.extend_from_slice(&text[..len])?;
+        assert_answer(rt, alloc, "judge", &cut, status, b"", err)?;
+    }
+    Ok(())
+}
+
 /// Each prefix of a test with its section: up to the whole section line there is none, then a line that is cut is bad.
 #[test]
 fn prefixes_are_answered(rt: HostRuntime) -> Result<(), Fail> {
     let alloc = rt.alloc();
-    let sb = SB.as_bytes();
-    for len in 0..=sb.len() {
-        let called = call(&rt, alloc, "judge", &sb[..len], NEVER)?;
-        assert_ended(&rt, &called, SB, 9, b"", "perple: no section\n");
-    }
-    let mut input = Vec::from_slice(alloc, sb)?;
+    let mut input = Vec::new(alloc);
+    assert_answer(&rt, alloc, "judge", &input, 9, b"", "perple: no section\n")?;
+    assert_prefixes(&rt, alloc, &input, SB.as_bytes(), 9, "perple: no section\n")?;
+    input.extend_from_slice(SB.as_bytes())?;
+    assert_answer(&rt, alloc, "judge", &input, 9, b"", "perple: no section\n")?;
     for (line, status, err, out) in GROWING {
-        let bytes = line.as_bytes();
-        for len in 1..bytes.len() {
-            let mut cut = Vec::from_slice(alloc, &input)?;
-            cut.extend_from_slice(&bytes[..len])?;
-            let called = call(&rt, alloc, "judge", &cut, NEVER)?;
-            assert_ended(&rt, &called, line, status, b"", err);
+        assert_prefixes(&rt, alloc, &input, line.as_bytes(), status, err)?;
+        for end in [line, "\n"] {
+            input.extend_from_slice(end.as_bytes())?;
+            assert_answer(&rt, alloc, "judge", &input, 0, out.as_bytes(), "")?;
         }
-        input.extend_from_slice(bytes)?;
-        let called = call(&rt, alloc, "judge", &input, NEVER)?;
-        assert_ended(&rt, &called, line, 0, out.as_bytes(), "");
-        input.push(b'\n')?;
-        let called = call(&rt, alloc, "judge", &input, NEVER)?;
-        assert_ended(&rt, &called, line, 0, out.as_bytes(), "");
     }
     Ok(())
 }
@@ -320,30 +326,28 @@ impl Source for Blanks {
     }
 }
 
-/// A litmus part of 65,536 bytes is taken, and one of a byte more is not, whatever the section's length. Nor is an input without an end.
+// How many bytes the litmus part has before its last line feed, the number of the status, and what is written to both sinks.
+const LONG: [(usize, u8, &str, &str); 2] = [
+    (65_535, 0, "Wrong 1 kind 6 Short\n", ""),
+    (65_536, 7, "", "perple: limit input 65536\n"),
+];
+
+/// A litmus part of 65,536 bytes is taken, and one of a byte more is not.
 #[test]
-fn long_inputs_are_refused(rt: HostRuntime) -> Result<(), Fail> {
+fn long_litmus_parts_are_refused(rt: HostRuntime) -> Result<(), Fail> {
     let alloc = rt.alloc();
-    let rows = [
-        (65_535, 0, "Wrong 1 kind 6 Short\n", ""),
-        (65_536, 7, "", "perple: limit input 65536\n"),
-    ];
-    for (blanks_to, status, out, err) in rows {
+    for (len, status, out, err) in LONG {
         let mut input = Vec::from_slice(alloc, SB.as_bytes())?;
-        for _ in SB.len()..blanks_to {
-            input.push(b' ')?;
-        }
+        input.resize(len, b' ')?;
         input.extend_from_slice(b"\n%events 1\n")?;
-        let called = call(&rt, alloc, "judge", &input, NEVER)?;
-        assert_ended(
-            &rt,
-            &called,
-            "a long litmus part",
-            status,
-            out.as_bytes(),
-            err,
-        );
+        assert_answer(&rt, alloc, "judge", &input, status, out.as_bytes(), err)?;
     }
+    Ok(())
+}
+
+#[test]
+fn inputs_without_an_end_are_refused(rt: HostRuntime) -> Result<(), Fail> {
+    let alloc = rt.alloc();
     for line in ["judge", "order", "witness 1", "verdict", "skew 1"] {
         let called = call_on(&rt, alloc, line, &mut Blanks, NEVER)?;
         assert_ended(
@@ -358,54 +362,64 @@ fn long_inputs_are_refused(rt: HostRuntime) -> Result<(), Fail> {
     Ok(())
 }
 
-// How many bytes stand on the output where a write fails: the pieces before it, of 16 bytes each. The whole answer has 88.
-const WRITTEN: [(u64, usize); 6] = [(1, 0), (2, 16), (3, 32), (4, 48), (5, 64), (6, 80)];
+// Of `order` on SB with two logs: which call of the source and of the output fails, the number of the status, how many bytes
+// stand on the output, and the line. The input has 134 bytes, so its end is found by the tenth read, and each write has 16 bytes.
+const FAILING: [(u64, u64, u8, usize, &str); 18] = [
+    (1, 0, 3, 0, "perple: reading failed\n"),
+    (2, 0, 3, 0, "perple: reading failed\n"),
+    (3, 0, 3, 0, "perple: reading failed\n"),
+    (4, 0, 3, 0, "perple: reading failed\n"),
+    (5, 0, 3, 0, "perple: reading failed\n"),
+    (6, 0, 3, 0, "perple: reading failed\n"),
+    (7, 0, 3, 0, "perple: reading failed\n"),
+    (8, 0, 3, 0, "perple: reading failed\n"),
+    (9, 0, 3, 0, "perple: reading failed\n"),
+    (10, 0, 3, 0, "perple: reading failed\n"),
+    (0, 1, 4, 0, "perple: writing failed\n"),
+    (0, 2, 4, 16, "perple: writing failed\n"),
+    (0, 3, 4, 32, "perple: writing failed\n"),
+    (0, 4, 4, 48, "perple: writing failed\n"),
+    (0, 5, 4, 64, "perple: writing failed\n"),
+    (0, 6, 4, 80, "perple: writing failed\n"),
+    (11, 7, 0, 88, ""),
+    (0, 0, 0, 88, ""),
+];
 
-/// Each call of the source and of both sinks fails in turn. The input has 134 bytes, so its end is found by the tenth read.
+/// Each call of the source and of the output fails in turn, and what stands on the output is a front part of the whole answer.
 #[test]
 fn each_call_may_fail(rt: HostRuntime) -> Result<(), Fail> {
     let alloc = rt.alloc();
     let input = with_section(alloc, SB, "%logs 1\nP0 0\nP1 0\n")?;
     let whole = call(&rt, alloc, "order", &input, NEVER)?;
-    assert_eq!(rt; whole.out.len(), 88);
-    for read in 1..=10u64 {
+    for (read, write, status, written, err) in FAILING {
         let failing = Failing {
-            reads: &[read],
-            ..NEVER
+            read,
+            write,
+            line: 0,
         };
-        let called = call(&rt, alloc, "order", &input, failing)?;
-        assert_ended(&rt, &called, "a read", 3, b"", "perple: reading failed\n");
+        let ran = call(&rt, alloc, "order", &input, failing)?;
+        let out = ran.out.written();
+        assert_ended(&rt, &ran, "a failing call", status, out, err);
+        let front = out.len() == written && whole.out.written().starts_with(out);
+        assert!(rt; front, "output at read {read} write {write}");
     }
-    for (write, written) in WRITTEN {
-        let failing = Failing {
-            writes: &[write],
-            ..NEVER
-        };
-        let called = call(&rt, alloc, "order", &input, failing)?;
-        assert_ended(
-            &rt,
-            &called,
-            "a write",
-            4,
-            &whole.out[..written.min(whole.out.len())],
-            "perple: writing failed\n",
-        );
-    }
-    for (write, err) in [(1u64, ""), (2, "perple: section ")] {
-        let failing = Failing {
-            lines: &[write],
-            ..NEVER
-        };
-        let bad = with_section(alloc, SB, "%events 1\nP0 0 0 pull\n")?;
-        let called = call(&rt, alloc, "judge", &bad, failing)?;
+    Ok(())
+}
+
+// Which call of the error sink fails, and what stands there. The line has 23 bytes.
+const LOST: [(u64, &str); 3] = [
+    (1, ""),
+    (2, "perple: section "),
+    (3, "perple: section line 8\n"),
+];
+
+#[test]
+fn a_line_may_be_lost(rt: HostRuntime) -> Result<(), Fail> {
+    let alloc = rt.alloc();
+    let input = with_section(alloc, SB, "%events 1\nP0 0 0 pull\n")?;
+    for (line, err) in LOST {
+        let called = call(&rt, alloc, "judge", &input, Failing { line, ..NEVER })?;
         assert_ended(&rt, &called, "a line", 10, b"", err);
     }
-    let failing = Failing {
-        reads: &[11],
-        writes: &[7],
-        lines: &[1],
-    };
-    let called = call(&rt, alloc, "order", &input, failing)?;
-    assert_ended(&rt, &called, "no call", 0, &whole.out, "");
     Ok(())
 }

@@ -1,10 +1,11 @@
-// The rows of the commands that read a section, and of `witness`.
+// The rows of the commands that read a section, of `witness`, and of what is refused.
 use super::*;
 
-// The words, the input behind SB, the number of the status, and what is written to both sinks.
-pub(super) const JUDGED: [(&str, &str, u8, &str, &str); 16] = [
+// The words, a test, what stands behind it, the number of the status, and what is written to both sinks.
+pub(super) const ROWS: [(&str, &str, &str, u8, &str, &str); 38] = [
     (
         "judge",
+        SB,
         "%events 1\nP0 0 0 push\nP0 0 1 read 0\nP0 0 0 drain\nP1 0 0 push\nP1 0 1 read 1\nP1 0 0 drain\n",
         0,
         "Legal 6\n",
@@ -12,6 +13,7 @@ pub(super) const JUDGED: [(&str, &str, u8, &str, &str); 16] = [
     ),
     (
         "judge",
+        SB,
         "%events 1\nP0 0 0 push\nP0 0 1 read 0\nP0 0 0 drain\nP1 0 0 push\nP1 0 1 read 0\nP1 0 0 drain\n",
         0,
         "Wrong 5 kind 5 Value\n",
@@ -19,6 +21,7 @@ pub(super) const JUDGED: [(&str, &str, u8, &str, &str); 16] = [
     ),
     (
         "judge",
+        SB,
         "%events 1\nP0 0 0 push\nP0 0 1 read 0\nP0 0 0 drain\nP1 0 0 push\nP1 0 1 read 1\n",
         0,
         "Wrong 6 kind 6 Short\n",
@@ -26,14 +29,16 @@ pub(super) const JUDGED: [(&str, &str, u8, &str, &str); 16] = [
     ),
     (
         "judge",
+        SB,
         "%events 1\nP0 0 0 push\nP0 0 1 read 0\nP0 0 0 drain\nP0 0 0 drain\nP1 0 0 push\nP1 0 1 read 1\nP1 0 0 drain\n",
         0,
         "Wrong 4 kind 3 NotOldest\n",
         "",
     ),
-    ("judge", "%events 1\n", 0, "Wrong 1 kind 6 Short\n", ""),
+    ("judge", SB, "%events 1\n", 0, "Wrong 1 kind 6 Short\n", ""),
     (
         "judge",
+        SB,
         "%events 1\nP0 0 0 pull\n",
         10,
         "",
@@ -42,6 +47,7 @@ pub(super) const JUDGED: [(&str, &str, u8, &str, &str); 16] = [
     // blanks, leading zeros and lines without words
     (
         "judge",
+        SB,
         "\t%events  001 \r\n\n \t\nP00 0\t0  push\nP0 0 1 read 0\n\nP0 0 0 drain\nP1 0 0 push\nP1 0 1 read 1\nP1 0 0 drain",
         0,
         "Legal 6\n",
@@ -50,18 +56,27 @@ pub(super) const JUDGED: [(&str, &str, u8, &str, &str); 16] = [
     // the first section line begins the section, and the next line of its form is a line of it
     (
         "judge",
+        SB,
         "%events 1\n%events 1\n",
         10,
         "",
         "perple: section line 8\n",
     ),
-    ("judge", "", 9, "", "perple: no section\n"),
-    ("judge", "%events 0\n", 9, "", "perple: no section\n"),
-    ("judge", "%events 100001\n", 9, "", "perple: no section\n"),
-    ("judge", "%events 1 1\n", 9, "", "perple: no section\n"),
-    ("judge", "%logs 1\n", 9, "", "perple: no section\n"),
+    ("judge", SB, "", 9, "", "perple: no section\n"),
+    ("judge", SB, "%events 0\n", 9, "", "perple: no section\n"),
     (
         "judge",
+        SB,
+        "%events 100001\n",
+        9,
+        "",
+        "perple: no section\n",
+    ),
+    ("judge", SB, "%events 1 1\n", 9, "", "perple: no section\n"),
+    ("judge", SB, "%logs 1\n", 9, "", "perple: no section\n"),
+    (
+        "judge",
+        SB,
         "extra\n%events 1\nP0 0 0 pull\n",
         5,
         "",
@@ -69,6 +84,7 @@ pub(super) const JUDGED: [(&str, &str, u8, &str, &str); 16] = [
     ),
     (
         "judge 1",
+        SB,
         "%events 1\n",
         2,
         "",
@@ -76,16 +92,13 @@ pub(super) const JUDGED: [(&str, &str, u8, &str, &str); 16] = [
     ),
     (
         "pledge",
+        SB,
         "%events 1\n",
         2,
         "",
         "perple: usage: perple COMMAND [N] [OPTIONS]\n",
     ),
-];
-
-// The words, a test, the section behind it, the number of the status, and what is written to both sinks. 13 comes before 12, and both
-// before 10, also where a line is bad or missing.
-pub(super) const SOUGHT: [(&str, &str, &str, u8, &str, &str); 15] = [
+    // 13 comes before 12, and both before 10, also where a line is bad or missing
     (
         "order",
         SBF,
@@ -199,5 +212,62 @@ pub(super) const SOUGHT: [(&str, &str, &str, u8, &str, &str); 15] = [
         12,
         "",
         "perple: limit events 1000000\n",
+    ),
+    // what is no command, and what has no verdict
+    (
+        "verdict",
+        TWO_WRITERS,
+        "exists (2:EAX=0)\n",
+        6,
+        "",
+        "perple: atom 1: kind 7 SeveralWriters\n",
+    ),
+    (
+        "skew",
+        OWN,
+        "",
+        2,
+        "",
+        "perple: usage: perple COMMAND [N] [OPTIONS]\n",
+    ),
+    (
+        "skew 0",
+        OWN,
+        "",
+        2,
+        "",
+        "perple: usage: perple COMMAND [N] [OPTIONS]\n",
+    ),
+    (
+        "skew 100001",
+        OWN,
+        "",
+        2,
+        "",
+        "perple: usage: perple COMMAND [N] [OPTIONS]\n",
+    ),
+    (
+        "skew 3 3",
+        OWN,
+        "",
+        2,
+        "",
+        "perple: usage: perple COMMAND [N] [OPTIONS]\n",
+    ),
+    (
+        "verdict 1",
+        OWN,
+        "",
+        2,
+        "",
+        "perple: usage: perple COMMAND [N] [OPTIONS]\n",
+    ),
+    (
+        "",
+        OWN,
+        "",
+        2,
+        "",
+        "perple: usage: perple COMMAND [N] [OPTIONS]\n",
     ),
 ];

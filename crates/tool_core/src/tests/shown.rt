@@ -52,29 +52,28 @@ const SHOWN: [(&str, &str, [&str; 2], &str); 6] = [
     ),
 ];
 
+// The call wrote a section with these lines, and made no step on the field.
+fn is_told(shown: &Called, lines: [&str; 2]) -> bool {
+    let Ok(run) = str::from_utf8(shown.out.written()) else {
+        return false;
+    };
+    shown.status.number() == 0
+        && shown.words == (0, 0)
+        && run.starts_with("%events 1\n")
+        && run.find(lines[0]).is_some()
+        && run.find(lines[1]).is_some()
+}
+
 /// What is shown is a run of the right conjunction, and `judge` finds it legal.
 #[test]
 fn shown_runs_are_legal(rt: HostRuntime) -> Result<(), Fail> {
     let alloc = rt.alloc();
     for (text, condition, lines, legal) in SHOWN {
-        let input = with_section(alloc, text, condition)?;
-        let shown = call(&rt, alloc, "show", &input, NEVER)?;
-        assert!(rt; shown.status.number() == 0 && shown.words == (0, 0));
-        let run = str::from_utf8(&shown.out).ok().ok_or("it is a text")?;
-        assert!(rt;
-            run.starts_with("%events 1\n"),
-            "section at {condition}{text}"
-        );
-        for line in lines {
-            assert!(rt; run.find(line).is_some(), "{line} at {condition}{text}");
-        }
-        let told = with_section(
-            alloc,
-            str::from_utf8(&input).ok().ok_or("it is a text")?,
-            run,
-        )?;
-        let judged = call(&rt, alloc, "judge", &told, NEVER)?;
-        assert_ended(&rt, &judged, text, 0, legal.as_bytes(), "");
+        let mut told = with_section(alloc, text, condition)?;
+        let shown = call(&rt, alloc, "show", &told, NEVER)?;
+        assert!(rt; is_told(&shown, lines), "run at {condition}{text}");
+        told.extend_from_slice(shown.out.written())?;
+        assert_answer(&rt, alloc, "judge", &told, 0, legal.as_bytes(), "")?;
     }
     Ok(())
 }
@@ -84,13 +83,16 @@ fn shown_runs_are_legal(rt: HostRuntime) -> Result<(), Fail> {
 fn cycles_are_shown(rt: HostRuntime) -> Result<(), Fail> {
     let alloc = rt.alloc();
     for text in [SBF, MP] {
-        let shown = call(&rt, alloc, "show", text.as_bytes(), NEVER)?;
         let verdict = call(&rt, alloc, "verdict", text.as_bytes(), NEVER)?;
-        assert!(rt;
-            shown.out.starts_with(b"Forbidden\nCycle 0 "),
-            "output at {text}"
-        );
-        assert_ended(&rt, &shown, text, 0, &verdict.out, "");
+        assert_answer(
+            &rt,
+            alloc,
+            "show",
+            text.as_bytes(),
+            0,
+            verdict.out.written(),
+            "",
+        )?;
     }
     Ok(())
 }
@@ -161,9 +163,7 @@ fn others_are_not_shown(rt: HostRuntime) -> Result<(), Fail> {
     let alloc = rt.alloc();
     for (words, text, condition, status, out, err) in UNSHOWN {
         let input = with_section(alloc, text, condition)?;
-        let called = call(&rt, alloc, words, &input, NEVER)?;
-        assert_ended(&rt, &called, text, status, out.as_bytes(), err);
-        assert!(rt; called.words == (0, 0));
+        assert_answer(&rt, alloc, words, &input, status, out.as_bytes(), err)?;
     }
     Ok(())
 }
