@@ -311,9 +311,7 @@ fn prefixes_are_answered(rt: HostRuntime) -> Result<(), Fail> {
 struct Blanks;
 
 impl Source for Blanks {
-    ghost left = { λ source. None };
-
-    ghost faults = { λ source. 0 };
+    ghost seen = { λ _. record { bytes = None; faults = 0 } };
 
     fn read(&mut self, buf: &mut [u8]) -> Result<usize, Failed>
         requires { 0 < length buf.old }
