@@ -146,12 +146,26 @@ fn assert_answer<R: Threads + Sync + Abort>(
     Ok(())
 }
 
+// The same of a text with a section behind it.
+fn assert_row<R: Threads + Sync + Abort>(
+    rt: &R,
+    alloc: Global,
+    line: &str,
+    text: &str,
+    section: &str,
+    status: u8,
+    out: &str,
+    err: &str,
+) -> Result<(), Fail> {
+    let input = with_section(alloc, text, section)?;
+    assert_answer(rt, alloc, line, &input, status, out.as_bytes(), err)
+}
+
 #[test]
 fn rows_are_answered(rt: HostRuntime) -> Result<(), Fail> {
     let alloc = rt.alloc();
     for (line, text, section, status, out, err) in ROWS {
-        let input = with_section(alloc, text, section)?;
-        assert_answer(&rt, alloc, line, &input, status, out.as_bytes(), err)?;
+        assert_row(&rt, alloc, line, text, section, status, out, err)?;
     }
     Ok(())
 }

@@ -162,8 +162,7 @@ const UNSHOWN: [(&str, &str, &str, u8, &str, &str); 7] = [
 fn others_are_not_shown(rt: HostRuntime) -> Result<(), Fail> {
     let alloc = rt.alloc();
     for (words, text, condition, status, out, err) in UNSHOWN {
-        let input = with_section(alloc, text, condition)?;
-        assert_answer(&rt, alloc, words, &input, status, out.as_bytes(), err)?;
+        assert_row(&rt, alloc, words, text, condition, status, out, err)?;
     }
     Ok(())
 }
