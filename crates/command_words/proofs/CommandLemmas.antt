@@ -23,21 +23,33 @@ use Rattle.command_words.proofs.Parse.{Agrees, AllShaped, parse, reads, rest_fau
 use Rattle.command_words.proofs.JobLemmas.{all_shaped, job-reads}
 
 abbrev unbuilt_of_rules : Text → List Rule → App
-unbuilt_of_rules name rules = record { top = record (new_shape name) { rules = rules; disable_help_flag = true }; subs = [] }
+unbuilt_of_rules name rules = record {
+  top = record (new_shape name) { rules = rules; disable_help_flag = true };
+  subs = [];
+}
 
 -- one option more
 pub option_added : (name : Text) (options : List (Bor Text)) (i : ℕ) (d : Bor Text) → i < length options
-    → with_rule (app_for name (texts (take i options))) (option_arg (get_or options i d).now) ≡ app_for name (texts (take (i + 1) options))
+    → with_rule (app_for name (texts (take i options))) (option_arg (get_or options i d).now)
+    ≡ app_for name (texts (take (i + 1) options))
 option_added name options i d lt =
     let more : texts (take (i + 1) options) ≡ texts (take i options) ++ (get_or options i d).now ∷ [] =
-    ap texts (take_more options i d lt) ∙ map-append (λ (s : Bor Text). s.now) (take i options) (get_or options i d ∷ []) in
-    let rules : map option_arg (texts (take i options) ++ (get_or options i d).now ∷ []) ≡ map option_arg (texts (take i options)) ++ option_arg (get_or options i d).now ∷ [] =
+    ap texts (take_more options i d lt) ∙ map-append (λ (s : Bor Text). s.now) (take i options)
+    (get_or options i d ∷ []) in
+    let rules : map option_arg (texts (take i options) ++ (get_or options i d).now ∷ [])
+    ≡ map option_arg (texts (take i options)) ++ option_arg (get_or options i d).now ∷ [] =
     map-append option_arg (texts (take i options)) ((get_or options i d).now ∷ []) in
     sym (ap (app_for name) more ∙ ap (λ (rs : List Rule). unbuilt_of_rules name (count_arg ∷ rs)) rules)
 
 abbrev app_of_rules : Text → List Rule → App
 app_of_rules name rules = record {
-  top = record (new_shape name) { rules = rules; disable_help_flag = true; disable_help_subcommand = true; is_built = true };
+  top =
+      record (new_shape name) {
+        rules = rules;
+        disable_help_flag = true;
+        disable_help_subcommand = true;
+        is_built = true;
+      };
   subs = [];
 }
 
@@ -74,16 +86,19 @@ buildable : (name : Text) (names : List Text) → is_buildable (app_for name nam
 buildable name names = rw (simple_options names) refl
 
 ready : (name : Text) (names : List Text) → are_ready (built_for name names) ≡ true
-ready name names = rw (simple_rules names, none_early (count_by (λ (a : Rule). is_some a.index) (rules_for names)) names) refl
+ready name names =
+    rw (simple_rules names, none_early (count_by (λ (a : Rule). is_some a.index) (rules_for names)) names) refl
 
 pub simple_app : (name : Text) (names : List Text) → is_simple (app_for name names) ≡ true
-simple_app name names = ap₂ (λ a b. a && b) (buildable name names) (ap are_ready (built_is name names) ∙ ready name names)
+simple_app name names =
+    ap₂ (λ a b. a && b) (buildable name names) (ap are_ready (built_is name names) ∙ ready name names)
 
 free : (name : Text) (names : List Text) → is_free_app (built_for name names) ≡ true
 free name names = rw (free_rules names) refl
 
 pub simple_and_free : (name : Text) (names : List Text) → is_simple_and_free (app_for name names) ≡ true
-simple_and_free name names = ap₂ (λ a b. a && b) (simple_app name names) (ap is_free_app (built_is name names) ∙ free name names)
+simple_and_free name names =
+    ap₂ (λ a b. a && b) (simple_app name names) (ap is_free_app (built_is name names) ∙ free name names)
 
 -- ---- the parse
 
@@ -94,7 +109,8 @@ module _ (name : Text) (names : List Text) (no_N : is_among (codes "N") names �
   abbrev pub rows_after_words : List Row
   rows_after_words = rest_rows name names no_N (stand [] None idle 1) (drop 1 words)
 
-  nothing_entered : (stop : Option (Text × List Text)) → (is_some (entered (built_for name names) stop) ≡ false) × (entered_fault (built_for name names) stop ≡ [])
+  nothing_entered : (stop : Option (Text × List Text))
+      → (is_some (entered (built_for name names) stop) ≡ false) × (entered_fault (built_for name names) stop ≡ [])
   nothing_entered None = (refl, refl)
   nothing_entered (Some p) = (refl, refl)
 
@@ -102,7 +118,8 @@ module _ (name : Text) (names : List Text) (no_N : is_among (codes "N") names �
   fault_is =
       let stop = (walk (rules_for names) [] nothing_held (drop 1 words)).stopped in
       ap (λ a. built_fault a nothing_held (drop 1 words)) (built_is name names)
-      ∙ ap₂ (λ has below. level_fault (shape_for name names) [] nothing_held (drop 1 words) has below) (nothing_entered stop).0 (nothing_entered stop).1
+      ∙ ap₂ (λ has below. level_fault (shape_for name names) [] nothing_held (drop 1 words) has below)
+      (nothing_entered stop).0 (nothing_entered stop).1
 
   pub matches_are : matches_of (app_for name names) words ≡ rows_after_words
   matches_are = ap (λ (a : App). rows_after a.top.rules (names_of a) (drop 1 words)) (built_is name names)
@@ -112,20 +129,29 @@ module _ (name : Text) (names : List Text) (no_N : is_among (codes "N") names �
 
   -- where clap takes the words, the job is that of its matches
   pub taken : AllShaped (drop 1 words) → fault_of (app_for name names) words ≡ []
-      → (value_of : Text → Option Text) → ((id : Text) → value_of id ≡ first_of id (matches_of (app_for name names) words)) → job_of value_of ≡ job_in names (drop 1 words)
-  taken all none value_of is = go (reads names (drop 1 words) [] None) (agrees all) ∙ sym (job-reads names (drop 1 words))
+      → (value_of : Text → Option Text) → ((id : Text)
+      → value_of id ≡ first_of id (matches_of (app_for name names) words))
+      → job_of value_of ≡ job_in names (drop 1 words)
+  taken all none value_of is =
+      go (reads names (drop 1 words) [] None) (agrees all) ∙ sym (job-reads names (drop 1 words))
     where
-      go : (o : Option (List Given)) → Agrees fault_after rows_after_words o → job_of value_of ≡ option_and_then (λ gs. job_of (value_given gs)) o
+      go : (o : Option (List Given)) → Agrees fault_after rows_after_words o
+          → job_of value_of ≡ option_and_then (λ gs. job_of (value_given gs)) o
       go None h = absurd (h (sym fault_is ∙ none))
       go (Some gs) h =
-          let same : (id : Text) → value_of id ≡ value_given gs id = λ id. is id ∙ ap (first_of id) (matches_are ∙ h.1) ∙ first_for gs id in
+          let same : (id : Text) → value_of id ≡ value_given gs id = λ id. is id ∙ ap (first_of id) (matches_are ∙ h.1)
+          ∙ first_for gs id in
           ap job_of (λ i id. same id i)
 
   -- where clap refuses the words for another cause than memory, there is no job
-  pub refused : AllShaped (drop 1 words) → (e : Error) → HasKind (fault_of (app_for name names) words) e → (kind_of e ≡ kind.OutOfMemory → ⊥) → job_in names (drop 1 words) ≡ None
-  refused all e has other = job-reads names (drop 1 words) ∙ go (reads names (drop 1 words) [] None) (agrees all) (subst (λ (k : Kinds). HasKind k e) fault_is has)
+  pub refused : AllShaped (drop 1 words) → (e : Error) → HasKind (fault_of (app_for name names) words) e
+      → (kind_of e ≡ kind.OutOfMemory → ⊥) → job_in names (drop 1 words) ≡ None
+  refused all e has other =
+      job-reads names (drop 1 words) ∙ go (reads names (drop 1 words) [] None) (agrees all)
+      (subst (λ (k : Kinds). HasKind k e) fault_is has)
     where
-      go : (o : Option (List Given)) → Agrees fault_after rows_after_words o → HasKind fault_after e → option_and_then (λ gs. job_of (value_given gs)) o ≡ None
+      go : (o : Option (List Given)) → Agrees fault_after rows_after_words o → HasKind fault_after e
+          → option_and_then (λ gs. job_of (value_given gs)) o ≡ None
       go None h has = refl
       go (Some gs) h (inl memory) = absurd (other memory)
       go (Some gs) h (inr among) = absurd (subst (λ (k : Kinds). IsAmong (kind_of e) k) h.0 among)
@@ -134,15 +160,21 @@ module _ (name : Text) (names : List Text) (no_N : is_among (codes "N") names �
 
 module _ (c : Command) (name : Text) (names : List Text) (no_N : is_among (codes "N") names ≡ false) (words : List Text)
     (app : app_of c ≡ app_for name names) (no_stray : list_any is_stray (drop 1 words) ≡ false) where
-  pub taken_job : (m : ArgMatches) (job : Option Asked) → (is_simple_and_free (app_of c) ≡ true → fault_of (app_of c) words ≡ []) → HasMatchesOf (app_of c) words m
+  pub taken_job : (m : ArgMatches) (job : Option Asked)
+      → (is_simple_and_free (app_of c) ≡ true → fault_of (app_of c) words ≡ []) → HasMatchesOf (app_of c) words m
       → job ≡ job_of (first_value (found_of m)) → job ≡ job_in names (drop 1 words)
   taken_job m job kinds matches is =
-      let none : fault_of (app_for name names) words ≡ [] = ap (λ a. fault_of a words) (sym app) ∙ kinds (ap is_simple_and_free app ∙ simple_and_free name names) in
-      let rows : rows_of (found_of m) ≡ matches_of (app_for name names) words = (matches (ap is_simple app ∙ simple_app name names)).0 ∙ ap (λ a. matches_of a words) app in
-      is ∙ taken name names no_N words (all_shaped (drop 1 words) no_stray) none (first_value (found_of m)) (λ id. first_value-rows (found_of m) id ∙ ap (first_of id) rows)
+      let none : fault_of (app_for name names) words ≡ [] = ap (λ a. fault_of a words) (sym app)
+      ∙ kinds (ap is_simple_and_free app ∙ simple_and_free name names) in
+      let rows : rows_of (found_of m) ≡ matches_of (app_for name names) words =
+      (matches (ap is_simple app ∙ simple_app name names)).0 ∙ ap (λ a. matches_of a words) app in
+      is ∙ taken name names no_N words (all_shaped (drop 1 words) no_stray) none (first_value (found_of m))
+      (λ id. first_value-rows (found_of m) id ∙ ap (first_of id) rows)
 
-  pub refused_job : (e : Error) → (is_simple_and_free (app_of c) ≡ true → HasKind (fault_of (app_of c) words) e) → (kind_of e ≡ kind.OutOfMemory → ⊥)
+  pub refused_job : (e : Error) → (is_simple_and_free (app_of c) ≡ true → HasKind (fault_of (app_of c) words) e)
+      → (kind_of e ≡ kind.OutOfMemory → ⊥)
       → job_in names (drop 1 words) ≡ None
   refused_job e kinds other =
       refused name names no_N words (all_shaped (drop 1 words) no_stray) e
-      (subst (λ (k : Kinds). HasKind k e) (ap (λ a. fault_of a words) app) (kinds (ap is_simple_and_free app ∙ simple_and_free name names))) other
+      (subst (λ (k : Kinds). HasKind k e) (ap (λ a. fault_of a words) app)
+      (kinds (ap is_simple_and_free app ∙ simple_and_free name names))) other

@@ -35,28 +35,38 @@ abbrev its_iterations : Option Asked → Option ℕ
 its_iterations job = option_map (λ (j : Asked). j.options.iterations) job
 
 abbrev usual : ℕ → Asked
-usual n = record { options = record { iterations = n; seed = 0; rate = 64; buffer = 8 }; count = Exhaustive; cut = 4096; order = None }
+usual n = record {
+  options = record { iterations = n; seed = 0; rate = 64; buffer = 8 };
+  count = Exhaustive;
+  cut = 4096;
+  order = None;
+}
 
 of_usual : (o : Option ℕ) → its_iterations (option_and_then (λ n. Some (usual n)) o) ≡ o
 of_usual None = refl
 of_usual (Some n) = refl
 
-one_word : (word : Text) (hyphenated : Bool) → is_hyphenated word ≡ hyphenated → its_iterations (job_in [] (word ∷ [])) ≡ number_within 1 100000 word
+one_word : (word : Text) (hyphenated : Bool) → is_hyphenated word ≡ hyphenated
+    → its_iterations (job_in [] (word ∷ [])) ≡ number_within 1 100000 word
 one_word word true is = rw (given_hyphenated word [] is) (sym (no_iterations word is))
 one_word word false is = rw (given_plain word [] is) (of_usual (number_within 1 100000 word))
 
 -- two numbers of iterations are too many
 twice : (first second : Text) (more : Option (List Given))
-    → option_and_then (λ gs. if is_once gs then job_of (value_given gs) else None) (with_given (codes "N") first (with_given (codes "N") second more)) ≡ None
+    → option_and_then (λ gs. if is_once gs then job_of (value_given gs) else None)
+    (with_given (codes "N") first (with_given (codes "N") second more)) ≡ None
 twice first second None = refl
 twice first second (Some gs) = refl
 
-two_words : (first second : Text) (rest : List Text) (one other : Bool) → is_hyphenated first ≡ one → is_hyphenated second ≡ other
+two_words : (first second : Text) (rest : List Text) (one other : Bool) → is_hyphenated first ≡ one
+    → is_hyphenated second ≡ other
     → job_in [] (first ∷ second ∷ rest) ≡ None
 two_words first second rest true other is and_is = rw (given_hyphenated first (second ∷ rest) is) refl
-two_words first second rest false true is and_is = rw (given_plain first (second ∷ rest) is) (rw (given_hyphenated second rest and_is) refl)
+two_words first second rest false true is and_is =
+    rw (given_plain first (second ∷ rest) is) (rw (given_hyphenated second rest and_is) refl)
 two_words first second rest false false is and_is =
-    rw (given_plain first (second ∷ rest) is) (rw (given_plain second rest and_is) (twice first second (given_by [] None rest)))
+    rw (given_plain first (second ∷ rest) is) (rw (given_plain second rest and_is)
+    (twice first second (given_by [] None rest)))
 
 job_alone : (words : List Text) → its_iterations (job_in [] words) ≡ iterations_in words
 job_alone [] = refl
@@ -64,7 +74,8 @@ job_alone (word ∷ []) = one_word word (is_hyphenated word) refl
 job_alone (first ∷ second ∷ rest) =
     ap its_iterations (two_words first second rest (is_hyphenated first) (is_hyphenated second) refl refl)
 
-pub iterations_some : (words : List Text) (job : Asked) → job_in [] words ≡ Some job → iterations_in words ≡ Some job.options.iterations
+pub iterations_some : (words : List Text) (job : Asked) → job_in [] words ≡ Some job
+    → iterations_in words ≡ Some job.options.iterations
 iterations_some words job is = sym (job_alone words) ∙ ap its_iterations is
 
 pub iterations_none : (words : List Text) → job_in [] words ≡ None → iterations_in words ≡ None

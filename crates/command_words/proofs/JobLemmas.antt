@@ -25,7 +25,9 @@ is_apart before [] = true
 is_apart before (g ∷ gs) = not (is_given g.name before) && is_apart before gs
 
 text_swap : (a b : Text) → bytes_eq a b ≡ bytes_eq b a
-text_swap a b = same_from_decides {P = a ≡ b} (bytes_eq a b) (bytes_eq b a) (bytes_eq-Decides a b) (λ e. sym ((bytes_eq-Decides b a).0 e), λ e. (bytes_eq-Decides b a).1 (sym e))
+text_swap a b =
+    same_from_decides {P = a ≡ b} (bytes_eq a b) (bytes_eq b a) (bytes_eq-Decides a b)
+    (λ e. sym ((bytes_eq-Decides b a).0 e), λ e. (bytes_eq-Decides b a).1 (sym e))
 
 push_tests : (a e p q : Bool) → (not (a || (e || false)) && (p && not q)) ≡ ((not a && p) && not (e || q))
 push_tests true e p q = refl
@@ -34,11 +36,13 @@ push_tests false true false q = refl
 push_tests false false true q = refl
 push_tests false false false q = refl
 
-apart_push : (before : List Given) (g : Given) (gs : List Given) → is_apart (before ++ g ∷ []) gs ≡ (is_apart before gs && not (is_given g.name gs))
+apart_push : (before : List Given) (g : Given) (gs : List Given)
+    → is_apart (before ++ g ∷ []) gs ≡ (is_apart before gs && not (is_given g.name gs))
 apart_push before g [] = refl
 apart_push before g (h ∷ hs) =
     ap₂ (λ a b. not a && b)
-    (list_any-append (λ (x : Given). bytes_eq x.name h.name) before (g ∷ []) ∙ ap (λ e. is_given h.name before || (e || false)) (text_swap g.name h.name))
+    (list_any-append (λ (x : Given). bytes_eq x.name h.name) before (g ∷ [])
+    ∙ ap (λ e. is_given h.name before || (e || false)) (text_swap g.name h.name))
     (apart_push before g hs)
     ∙ push_tests (is_given h.name before) (bytes_eq h.name g.name) (is_apart before hs) (is_given g.name hs)
 
@@ -50,7 +54,8 @@ fresh_tests false false q o = refl
 fresh_is : (before gs : List Given) → is_fresh before gs ≡ (is_apart before gs && is_once gs)
 fresh_is before [] = refl
 fresh_is before (g ∷ gs) =
-    ap (λ b. not (is_given g.name before) && b) (fresh_is (before ++ g ∷ []) gs ∙ ap (λ b. b && is_once gs) (apart_push before g gs))
+    ap (λ b. not (is_given g.name before) && b) (fresh_is (before ++ g ∷ []) gs
+    ∙ ap (λ b. b && is_once gs) (apart_push before g gs))
     ∙ fresh_tests (is_given g.name before) (is_apart before gs) (is_given g.name gs) (is_once gs)
 
 apart_from_none : (gs : List Given) → is_apart [] gs ≡ true
@@ -67,7 +72,8 @@ abbrev joined : List Given → List Given → Option (List Given)
 joined gs more = cond (is_fresh gs more && is_given (codes "N") (gs ++ more)) (Some (gs ++ more)) None
 
 add_joined : (gs : List Given) (g : Given) (o : Option (List Given))
-    → cond (is_given g.name gs) None (option_and_then (joined (gs ++ g ∷ [])) o) ≡ option_and_then (joined gs) (option_map (λ more. g ∷ more) o)
+    → cond (is_given g.name gs) None (option_and_then (joined (gs ++ g ∷ [])) o)
+    ≡ option_and_then (joined gs) (option_map (λ more. g ∷ more) o)
 add_joined gs g None = go (is_given g.name gs)
   where
     go : (b : Bool) → ◌≡◌ {A = Option (List Given)} (cond b None None) None
@@ -76,28 +82,38 @@ add_joined gs g None = go (is_given g.name gs)
 add_joined gs g (Some more) = go (is_given g.name gs)
   where
     go : (b : Bool) → cond b None (joined (gs ++ g ∷ []) more)
-        ≡ cond ((not b && is_fresh (gs ++ g ∷ []) more) && is_given (codes "N") (gs ++ g ∷ more)) (Some (gs ++ g ∷ more)) None
+        ≡ cond ((not b && is_fresh (gs ++ g ∷ []) more) && is_given (codes "N") (gs ++ g ∷ more))
+        (Some (gs ++ g ∷ more)) None
     go true = refl
-    go false = ap (λ all. cond (is_fresh (gs ++ g ∷ []) more && is_given (codes "N") all) (Some all) None) (append_assoc gs (g ∷ []) more)
+    go false =
+        ap (λ all. cond (is_fresh (gs ++ g ∷ []) more && is_given (codes "N") all) (Some all) None)
+        (append_assoc gs (g ∷ []) more)
 
 abbrev SameAfter : List Text → List Text → Type 0
-SameAfter names words = (gs : List Given) (waiting : Option Text) → reads names words gs waiting ≡ option_and_then (joined gs) (given_by names waiting words)
+SameAfter names words =
+    (gs : List Given) (waiting : Option Text) → reads names words gs waiting
+    ≡ option_and_then (joined gs) (given_by names waiting words)
 
 add_same : (names rest : List Text) → SameAfter names rest → (name value : Text) (gs : List Given)
-    → add name value gs (λ more. reads names rest more None) ≡ option_and_then (joined gs) (with_given name value (given_by names None rest))
+    → add name value gs (λ more. reads names rest more None)
+    ≡ option_and_then (joined gs) (with_given name value (given_by names None rest))
 add_same names rest same name value gs =
-    ap (λ o. cond (is_given name gs) None o) (same (gs ++ given_one name value ∷ []) None) ∙ add_joined gs (given_one name value) (given_by names None rest)
+    ap (λ o. cond (is_given name gs) None o) (same (gs ++ given_one name value ∷ []) None)
+    ∙ add_joined gs (given_one name value) (given_by names None rest)
 
 value_same : (names rest : List Text) → SameAfter names rest → (name : Text) (value : Option Text) (gs : List Given)
-    → value_read gs name value (reads names rest) ≡ option_and_then (joined gs) (value_then name value (λ waiting. given_by names waiting rest))
+    → value_read gs name value (reads names rest)
+    ≡ option_and_then (joined gs) (value_then name value (λ waiting. given_by names waiting rest))
 value_same names rest same name (Some value) gs = add_same names rest same name value gs
 value_same names rest same name None gs = same gs (Some name)
 
-cond_through : (b : Bool) (gs : List Given) (o p : Option (List Given)) → o ≡ option_and_then (joined gs) p → cond b o None ≡ option_and_then (joined gs) (cond b p None)
+cond_through : (b : Bool) (gs : List Given) (o p : Option (List Given)) → o ≡ option_and_then (joined gs) p
+    → cond b o None ≡ option_and_then (joined gs) (cond b p None)
 cond_through true gs o p e = e
 cond_through false gs o p e = refl
 
-cond_through_both : (b : Bool) (gs : List Given) (o p q r : Option (List Given)) → o ≡ option_and_then (joined gs) p → q ≡ option_and_then (joined gs) r
+cond_through_both : (b : Bool) (gs : List Given) (o p q r : Option (List Given)) → o ≡ option_and_then (joined gs) p
+    → q ≡ option_and_then (joined gs) r
     → cond b o q ≡ option_and_then (joined gs) (cond b p r)
 cond_through_both true gs o p q r e f = e
 cond_through_both false gs o p q r e f = f
@@ -107,9 +123,12 @@ reads-given_by names [] gs None = rw (append-nil gs) refl
 reads-given_by names [] gs (Some name) = refl
 reads-given_by names (word ∷ rest) gs None =
     cond_through_both (is_hyphenated word) gs _ _ _ _
-    (cond_through (is_option word) gs _ _ (cond_through (is_among (name_in (drop 2 word)) names) gs _ _ (value_same names rest (reads-given_by names rest) (name_in (drop 2 word)) (value_in (drop 2 word)) gs)))
+    (cond_through (is_option word) gs _ _ (cond_through (is_among (name_in (drop 2 word)) names) gs _ _
+    (value_same names rest (reads-given_by names rest) (name_in (drop 2 word)) (value_in (drop 2 word)) gs)))
     (add_same names rest (reads-given_by names rest) (codes "N") word gs)
-reads-given_by names (word ∷ rest) gs (Some name) = cond_through_both (is_hyphenated word) gs _ _ _ _ refl (add_same names rest (reads-given_by names rest) name word gs)
+reads-given_by names (word ∷ rest) gs (Some name) =
+    cond_through_both (is_hyphenated word) gs _ _ _ _ refl (add_same names rest
+    (reads-given_by names rest) name word gs)
 
 -- ---- the job
 
@@ -120,17 +139,24 @@ not_given name (g ∷ gs) none =
     let here : bytes_eq g.name name ≡ false = parts.0 in
     rw here (not_given name gs parts.1)
 
-job_joined : (gs : List Given) → cond (is_once gs) (job_of (value_given gs)) None ≡ option_and_then (λ all. job_of (value_given all)) (joined [] gs)
-job_joined gs = ap (λ b. cond b (job_of (value_given gs)) None) (once_is gs) ∙ go (is_fresh [] gs) (is_given (codes "N") gs) refl
+job_joined : (gs : List Given) → cond (is_once gs) (job_of (value_given gs)) None
+    ≡ option_and_then (λ all. job_of (value_given all)) (joined [] gs)
+job_joined gs =
+    ap (λ b. cond b (job_of (value_given gs)) None) (once_is gs) ∙ go (is_fresh [] gs) (is_given (codes "N") gs) refl
   where
-    go : (a b : Bool) → is_given (codes "N") gs ≡ b → cond a (job_of (value_given gs)) None ≡ option_and_then (λ all. job_of (value_given all)) (cond (a && b) (Some gs) None)
+    go : (a b : Bool) → is_given (codes "N") gs ≡ b
+        → cond a (job_of (value_given gs)) None ≡ option_and_then (λ all. job_of (value_given all))
+        (cond (a && b) (Some gs) None)
     go true true e = refl
     go true false e = rw (not_given (codes "N") gs e) refl
     go false b e = refl
 
 -- the job of the words is that of what they give
-pub job-reads : (names words : List Text) → job_in names words ≡ option_and_then (λ gs. job_of (value_given gs)) (reads names words [] None)
-job-reads names words = go (given_by names None words) ∙ sym (ap (option_and_then (λ gs. job_of (value_given gs))) (reads-given_by names words [] None))
+pub job-reads : (names words : List Text) → job_in names words
+    ≡ option_and_then (λ gs. job_of (value_given gs)) (reads names words [] None)
+job-reads names words =
+    go (given_by names None words) ∙ sym (ap (option_and_then (λ gs. job_of (value_given gs)))
+    (reads-given_by names words [] None))
   where
     go : (o : Option (List Given)) → option_and_then (λ gs. cond (is_once gs) (job_of (value_given gs)) None) o
         ≡ option_and_then (λ gs. job_of (value_given gs)) (option_and_then (joined []) o)
@@ -143,27 +169,35 @@ pub all_shaped : (words : List Text) → list_any is_stray words ≡ false → A
 all_shaped [] none = tt
 all_shaped (word ∷ rest) none = let parts = or_parts _ _ none in (parts.0, all_shaped rest parts.1)
 
-nothing_then : (name : Text) (value : Option Text) (rest : Option Text → Option (List Given)) → ((waiting : Option Text) → rest waiting ≡ None) → value_then name value rest ≡ None
+nothing_then : (name : Text) (value : Option Text) (rest : Option Text → Option (List Given))
+    → ((waiting : Option Text) → rest waiting ≡ None) → value_then name value rest ≡ None
 nothing_then name (Some value) rest none = rw (none None) refl
 nothing_then name None rest none = none (Some name)
 
-stray_given : (names words : List Text) (waiting : Option Text) → list_any is_stray words ≡ true → given_by names waiting words ≡ None
+stray_given : (names words : List Text) (waiting : Option Text) → list_any is_stray words ≡ true
+    → given_by names waiting words ≡ None
 stray_given names [] waiting some = cc
-stray_given names (word ∷ rest) None some = go (is_hyphenated word) (is_option word) refl refl (λ waiting. stray_given names rest waiting)
+stray_given names (word ∷ rest) None some =
+    go (is_hyphenated word) (is_option word) refl refl (λ waiting. stray_given names rest waiting)
   where
     known : (b : Bool) → ((waiting : Option Text) → given_by names waiting rest ≡ None)
-        → cond b (value_then (name_in (drop 2 word)) (value_in (drop 2 word)) (λ waiting. given_by names waiting rest)) None ≡ None
-    known true none = nothing_then (name_in (drop 2 word)) (value_in (drop 2 word)) (λ waiting. given_by names waiting rest) none
+        → cond b (value_then (name_in (drop 2 word)) (value_in (drop 2 word)) (λ waiting. given_by names waiting rest))
+        None ≡ None
+    known true none =
+        nothing_then (name_in (drop 2 word)) (value_in (drop 2 word)) (λ waiting. given_by names waiting rest) none
     known false none = refl
 
-    go : (a b : Bool) → is_hyphenated word ≡ a → is_option word ≡ b → ((waiting : Option Text) → list_any is_stray rest ≡ true → given_by names waiting rest ≡ None)
+    go : (a b : Bool) → is_hyphenated word ≡ a → is_option word ≡ b
+        → ((waiting : Option Text) → list_any is_stray rest ≡ true → given_by names waiting rest ≡ None)
         → given_by names None (word ∷ rest) ≡ None
     go false b h o more = rw h (rw (more None (rw h at some)) refl)
     go true false h o more = rw (h, o) refl
-    go true true h o more = rw (h, o) (known (is_among (name_in (drop 2 word)) names) (λ waiting. more waiting (rw (h, o) at some)))
+    go true true h o more =
+        rw (h, o) (known (is_among (name_in (drop 2 word)) names) (λ waiting. more waiting (rw (h, o) at some)))
 stray_given names (word ∷ rest) (Some name) some = go (is_hyphenated word) refl (stray_given names rest None)
   where
-    go : (a : Bool) → is_hyphenated word ≡ a → (list_any is_stray rest ≡ true → given_by names None rest ≡ None) → given_by names (Some name) (word ∷ rest) ≡ None
+    go : (a : Bool) → is_hyphenated word ≡ a → (list_any is_stray rest ≡ true → given_by names None rest ≡ None)
+        → given_by names (Some name) (word ∷ rest) ≡ None
     go false h more = rw h (rw (more (rw h at some)) refl)
     go true h more = rw h refl
 
@@ -172,6 +206,8 @@ pub stray_job : (names words : List Text) → list_any is_stray words ≡ true �
 stray_job names words some = rw (stray_given names words None some) refl
 
 -- the words after the first, as the code tests them
-pub stray-map : {X : Type 0} (f : X → Text) (ws : List X) → list_any (λ w. is_stray (f w)) (take (length ws - 1) (drop 1 ws)) ≡ list_any is_stray (drop 1 (map f ws))
+pub stray-map : {X : Type 0} (f : X → Text) (ws : List X)
+    → list_any (λ w. is_stray (f w)) (take (length ws - 1) (drop 1 ws)) ≡ list_any is_stray (drop 1 (map f ws))
 stray-map f [] = refl
-stray-map f (w ∷ ws) = ap (list_any (λ v. is_stray (f v))) (take_all (length (w ∷ ws) - 1) ws (omega arith)) ∙ list_any-map is_stray f ws
+stray-map f (w ∷ ws) =
+    ap (list_any (λ v. is_stray (f v))) (take_all (length (w ∷ ws) - 1) ws (omega arith)) ∙ list_any-map is_stray f ws

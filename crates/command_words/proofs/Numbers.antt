@@ -12,7 +12,8 @@ own : IsNumeralModel (λ ds. list_all is_ascii_digit ds ≡ true) (digits_value 
 own = numerals_by_value _ (search rules)
 
 given_back : {E : Type 0} (r : Result ℕ E) (text : List ℕ) → is_number text ≡ true → 0 < length text
-    → OkIff r ((0 < length text) × (digits_value 10 text < 2 ^ 64)) (digits_value 10 text) → result_ok r ≡ number_of text
+    → OkIff r ((0 < length text) × (digits_value 10 text < 2 ^ 64)) (digits_value 10 text)
+    → result_ok r ≡ number_of text
 given_back (Ok n) text is some h =
     let fits : nat_lt (digits_value 10 text) (2 ^ 64) ≡ true = lt-ltb _ _ h.0.1 in
     rw (is, fits) (ap Some h.1)
@@ -23,7 +24,8 @@ given_back (Err e) text is some h = go (nat_lt (digits_value 10 text) (2 ^ 64)) 
     go false fits = rw (is, fits) refl
 
 -- a text of 1 to 20 digits parses as its number, where 64 bits hold it
-pub parse-number : {E : Type 0} (r : Result ℕ E) (text : List ℕ) → is_number text ≡ true → ParsesUnsigned 64 10 text r → result_ok r ≡ number_of text
+pub parse-number : {E : Type 0} (r : Result ℕ E) (text : List ℕ) → is_number text ≡ true → ParsesUnsigned 64 10 text r
+    → result_ok r ≡ number_of text
 parse-number r text is h =
     let parts = and_parts _ _ is in
     let digits = (and_parts _ _ parts.1).1 in

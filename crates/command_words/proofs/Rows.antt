@@ -43,22 +43,26 @@ pub long_found : (names : List Text) (name : Text)
 long_found [] name = refl
 long_found (x ∷ xs) name = go (bytes_eq x name) refl (long_found xs name)
   where
-    go : (b : Bool) → bytes_eq x name ≡ b → arg_by_long (rules_for xs) name ≡ cond (is_among name xs) (Some (option_rule name)) None
+    go : (b : Bool) → bytes_eq x name ≡ b → arg_by_long (rules_for xs) name
+        ≡ cond (is_among name xs) (Some (option_rule name)) None
         → arg_by_long (rules_for (x ∷ xs)) name ≡ cond (is_among name (x ∷ xs)) (Some (option_rule name)) None
     go true e more = rw e (ap (λ t. Some (option_rule t)) (same_text x name e))
     go false e more = rw e more
 
-id_found : (names : List Text) (name : Text) → is_among name names ≡ true → find (λ (a : Rule). bytes_eq a.id name) (map option_rule names) ≡ Some (option_rule name)
+id_found : (names : List Text) (name : Text) → is_among name names ≡ true
+    → find (λ (a : Rule). bytes_eq a.id name) (map option_rule names) ≡ Some (option_rule name)
 id_found [] name among = cc
 id_found (x ∷ xs) name among = go (bytes_eq x name) refl (id_found xs name)
   where
-    go : (b : Bool) → bytes_eq x name ≡ b → (is_among name xs ≡ true → find (λ (a : Rule). bytes_eq a.id name) (map option_rule xs) ≡ Some (option_rule name))
+    go : (b : Bool) → bytes_eq x name ≡ b → (is_among name xs ≡ true
+        → find (λ (a : Rule). bytes_eq a.id name) (map option_rule xs) ≡ Some (option_rule name))
         → find (λ (a : Rule). bytes_eq a.id name) (map option_rule (x ∷ xs)) ≡ Some (option_rule name)
     go true e more = rw e (ap (λ t. Some (option_rule t)) (same_text x name e))
     go false e more = rw e (more (rw e at among))
 
 -- an option is found by its id, where no option is called N
-pub by_id : (names : List Text) (name : Text) → is_among (codes "N") names ≡ false → is_among name names ≡ true → arg_by_id (rules_for names) name ≡ Some (option_rule name)
+pub by_id : (names : List Text) (name : Text) → is_among (codes "N") names ≡ false → is_among name names ≡ true
+    → arg_by_id (rules_for names) name ≡ Some (option_rule name)
 by_id names name none among = go (bytes_eq (codes "N") name) refl
   where
     go : (b : Bool) → bytes_eq (codes "N") name ≡ b → arg_by_id (rules_for names) name ≡ Some (option_rule name)
@@ -96,7 +100,8 @@ pub is_given_for : (id : Text) (gs : List Given) → is_given_row id (rows_for g
 is_given_for id [] = refl
 is_given_for id (g ∷ gs) = go (bytes_eq g.name id) refl (is_given_for id gs)
   where
-    go : (b : Bool) → bytes_eq g.name id ≡ b → is_given_row id (rows_for gs) ≡ is_given id gs → is_given_row id (rows_for (g ∷ gs)) ≡ is_given id (g ∷ gs)
+    go : (b : Bool) → bytes_eq g.name id ≡ b → is_given_row id (rows_for gs) ≡ is_given id gs
+        → is_given_row id (rows_for (g ∷ gs)) ≡ is_given id (g ∷ gs)
     go true e more = rw e refl
     go false e more = rw e more
 
@@ -106,16 +111,19 @@ first_for gs id =
     ap (option_and_then (λ (r : Row). slice_get r.values 0)) (sym (find-map (λ (r : Row). bytes_eq r.id id) to_row gs))
     ∙ go (find (λ (g : Given). bytes_eq g.name id) gs)
   where
-    go : (o : Option Given) → option_and_then (λ (r : Row). slice_get r.values 0) (option_map to_row o) ≡ option_map (λ (g : Given). g.value) o
+    go : (o : Option Given) → option_and_then (λ (r : Row). slice_get r.values 0) (option_map to_row o)
+        ≡ option_map (λ (g : Given). g.value) o
     go None = refl
     go (Some g) = refl
 
 -- a new name is a row more
 row_added : (name value : Text) (gs : List Given) → is_given name gs ≡ false
-    → with_values name AsWritten CommandLine (value ∷ []) (without name (rows_for gs)) ≡ rows_for (gs ++ record { name = name; value = value } ∷ [])
+    → with_values name AsWritten CommandLine (value ∷ []) (without name (rows_for gs))
+    ≡ rows_for (gs ++ record { name = name; value = value } ∷ [])
 row_added name value gs none =
     let g : Given = record { name = name; value = value } in
-    ap (with_values name AsWritten CommandLine (value ∷ [])) (row_kept name (λ _. []) [] gs none ∙ append-nil (rows_for gs))
+    ap (with_values name AsWritten CommandLine (value ∷ [])) (row_kept name (λ _. []) [] gs none
+    ∙ append-nil (rows_for gs))
     ∙ row_kept name (more_values CommandLine (value ∷ [])) (to_row g ∷ []) gs none ∙ sym (map-append to_row gs (g ∷ []))
 
 pub used_option : (name value : Text) (gs : List Given) → is_given name gs ≡ false

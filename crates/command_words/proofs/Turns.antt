@@ -64,18 +64,22 @@ no_second (x ∷ xs) = no_second xs
 
 module _ (command : Text) (names : List Text) (rows : List Row) (pending : Option (Text × List Text)) (position : ℕ) (word : Text) where
   -- an option that the command lacks
-  pub unknown_turn : (waiting : Waiting) (name : Text) (value : Option Text) → bytes_eq word (45 ∷ 45 ∷ []) ≡ false → long_of word ≡ Some (name, value) → arg_by_long (rules_for names) name ≡ None
+  pub unknown_turn : (waiting : Waiting) (name : Text) (value : Option Text) → bytes_eq word (45 ∷ 45 ∷ []) ≡ false
+      → long_of word ≡ Some (name, value) → arg_by_long (rules_for names) name ≡ None
       → turn_fault (shape_for command names) [] (stand rows pending waiting position) word ≡ kind.UnknownArgument ∷ []
   unknown_turn waiting name value not_end parts found = rw (nothing_met waiting word, not_end, parts, found) refl
 
   -- `--name=value`
-  pub attached_turn : (waiting : Waiting) (name value : Text) → bytes_eq word (45 ∷ 45 ∷ []) ≡ false → long_of word ≡ Some (name, Some value)
+  pub attached_turn : (waiting : Waiting) (name value : Text) → bytes_eq word (45 ∷ 45 ∷ []) ≡ false
+      → long_of word ≡ Some (name, Some value)
       → arg_by_long (rules_for names) name ≡ Some (option_rule name)
       → turn_fault (shape_for command names) [] (stand rows pending waiting position) word
-      ≡ or_else (or_else (settle_fault (rules_for names) false (held_at rows pending)) (use_fault false (option_rule name) (value ∷ []) (settled_rows (rules_for names) pending rows))) []
+      ≡ or_else (or_else (settle_fault (rules_for names) false (held_at rows pending))
+      (use_fault false (option_rule name) (value ∷ []) (settled_rows (rules_for names) pending rows))) []
   attached_turn waiting name value not_end parts found = rw (nothing_met waiting word, not_end, parts, found) refl
 
-  pub attached_walk : (waiting : Waiting) (name value : Text) → bytes_eq word (45 ∷ 45 ∷ []) ≡ false → long_of word ≡ Some (name, Some value)
+  pub attached_walk : (waiting : Waiting) (name value : Text) → bytes_eq word (45 ∷ 45 ∷ []) ≡ false
+      → long_of word ≡ Some (name, Some value)
       → arg_by_long (rules_for names) name ≡ Some (option_rule name)
       → walked (rules_for names) [] (stand rows pending waiting position) word
       ≡ stand (used (option_rule name) (value ∷ []) (settled_rows (rules_for names) pending rows)) None idle position
@@ -83,35 +87,44 @@ module _ (command : Text) (names : List Text) (rows : List Row) (pending : Optio
   attached_walk waiting name value not_end parts found = rw (nothing_met waiting word, not_end, parts, found) refl
 
   -- `--name`
-  pub opening_turn : (waiting : Waiting) (name : Text) → bytes_eq word (45 ∷ 45 ∷ []) ≡ false → long_of word ≡ Some (name, None)
+  pub opening_turn : (waiting : Waiting) (name : Text) → bytes_eq word (45 ∷ 45 ∷ []) ≡ false
+      → long_of word ≡ Some (name, None)
       → arg_by_long (rules_for names) name ≡ Some (option_rule name)
-      → turn_fault (shape_for command names) [] (stand rows pending waiting position) word ≡ or_else (settle_fault (rules_for names) false (held_at rows pending)) []
+      → turn_fault (shape_for command names) [] (stand rows pending waiting position) word
+      ≡ or_else (settle_fault (rules_for names) false (held_at rows pending)) []
   opening_turn waiting name not_end parts found = rw (nothing_met waiting word, not_end, parts, found) refl
 
-  pub opening_walk : (waiting : Waiting) (name : Text) → bytes_eq word (45 ∷ 45 ∷ []) ≡ false → long_of word ≡ Some (name, None)
+  pub opening_walk : (waiting : Waiting) (name : Text) → bytes_eq word (45 ∷ 45 ∷ []) ≡ false
+      → long_of word ≡ Some (name, None)
       → arg_by_long (rules_for names) name ≡ Some (option_rule name)
-      → walked (rules_for names) [] (stand rows pending waiting position) word ≡ stand (settled_rows (rules_for names) pending rows) (Some (name, [])) (option name) position
+      → walked (rules_for names) [] (stand rows pending waiting position) word
+      ≡ stand (settled_rows (rules_for names) pending rows) (Some (name, [])) (option name) position
   unfolding walked
   opening_walk waiting name not_end parts found = rw (nothing_met waiting word, not_end, parts, found) refl
 
   -- a word that is no option, where none waits for its value: it is `N`, if there is none yet
-  pub count_turn : IsPlain word → turn_fault (shape_for command names) [] (stand rows pending idle 1) word ≡ settle_fault (rules_for names) false (held_at rows pending)
+  pub count_turn : IsPlain word → turn_fault (shape_for command names) [] (stand rows pending idle 1) word
+      ≡ settle_fault (rules_for names) false (held_at rows pending)
   count_turn plain = rw (plain.not_end, plain.not_long, plain.not_short, and_never (is_pending count_rule pending)) refl
 
   pub count_walk : IsPlain word
-      → walked (rules_for names) [] (stand rows pending idle 1) word ≡ stand (settled_rows (rules_for names) pending rows) (Some (codes "N", word ∷ [])) idle 2
+      → walked (rules_for names) [] (stand rows pending idle 1) word
+      ≡ stand (settled_rows (rules_for names) pending rows) (Some (codes "N", word ∷ [])) idle 2
   unfolding walked
   count_walk plain = rw (plain.not_end, plain.not_long, plain.not_short, and_never (is_pending count_rule pending)) refl
 
-  pub stray_turn : IsPlain word → turn_fault (shape_for command names) [] (stand rows pending idle 2) word ≡ kind.UnknownArgument ∷ []
+  pub stray_turn : IsPlain word → turn_fault (shape_for command names) [] (stand rows pending idle 2) word
+      ≡ kind.UnknownArgument ∷ []
   stray_turn plain = rw (plain.not_end, plain.not_long, plain.not_short, no_second names) refl
 
 module _ (command : Text) (names : List Text) (rows : List Row) (position : ℕ) (word id : Text) where
   -- the value of the option before it
-  pub value_turn : IsPlain word → turn_fault (shape_for command names) [] (stand rows (Some (id, [])) (option id) position) word ≡ []
+  pub value_turn : IsPlain word → turn_fault (shape_for command names) []
+      (stand rows (Some (id, [])) (option id) position) word ≡ []
   value_turn plain = rw (plain.not_end, plain.not_long, plain.not_short) refl
 
   pub value_walk : IsPlain word → arg_by_id (rules_for names) id ≡ Some (option_rule id)
-      → walked (rules_for names) [] (stand rows (Some (id, [])) (option id) position) word ≡ stand rows (Some (id, word ∷ [])) idle position
+      → walked (rules_for names) [] (stand rows (Some (id, [])) (option id) position) word
+      ≡ stand rows (Some (id, word ∷ [])) idle position
   unfolding walked
   value_walk plain found = rw (plain.not_end, plain.not_long, plain.not_short, found, text_is id) refl

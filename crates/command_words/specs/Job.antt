@@ -1,7 +1,8 @@
 -- What a job asks for, and the limits of its numbers. This project's own.
 use Rattle.std.specs.Prelude.{ℕ, ◌≤◌, Option}
-use Rattle.tso_runs.specs.declared.options.Options.{Options}
-use Rattle.tso_runs.specs.Fits.{IsWithinLimits}
+use Rattle.perp_base.specs.declared.limits.TheConstants.{MOST_PIECES}
+use Rattle.perp_base.specs.declared.options.Options.{Options}
+use Rattle.perp_base.specs.Options.{IsWithinLimits}
 use Rattle.command_words.specs.declared.job.Count.{Count}
 
 -- a job, as contracts see it
@@ -15,4 +16,4 @@ pub record Asked : Type 0 where
 pub record IsWithin (options : Options) (cut : ℕ) : Type 0 where
   pub run : IsWithinLimits options
   pub low_cut : 1 ≤ cut
-  pub high_cut : cut ≤ 65536
+  pub high_cut : cut ≤ MOST_PIECES

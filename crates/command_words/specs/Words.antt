@@ -1,12 +1,12 @@
 -- The words of the command line, and the command that they name. This project's own; the two ways to write an option
 -- are GNU's.
-use Rattle.std.specs.Prelude.{◌==◌, ◌&&◌, ◌^◌, ℕ, Bool, true, false, not, List, [], ◌∷◌}
-use Rattle.std.specs.Prelude.{length, drop, Option, Some, None, if◌then◌else◌, nat_le, nat_lt, codes}
-use Rattle.std.specs.Prelude.{find, option_map, option_and_then}
+use Rattle.std.specs.Prelude.{◌==◌, ◌&&◌, ◌^◌, ℕ, Bool, true, false, not, List, [], ◌∷◌, length, drop, Option, Some, None, if◌then◌else◌, nat_le, nat_lt, codes, find, option_map, option_and_then}
+use Prim.Native.Char.{code}
 use Rattle.std.specs.Char.{is_ascii_digit}
 use Rattle.std.specs.List.{after_first, before_first, list_all, list_any}
 use Rattle.std.specs.Str.{bytes_eq}
 use Rattle.std.specs.Str.Parse.{digits_value}
+use Rattle.perp_base.specs.declared.limits.TheConstants.{MOST_ITERATIONS, MOST_PIECES}
 use Rattle.command_words.specs.declared.job.Command.{Command}
 use Rattle.command_words.specs.declared.job.Command.TheVariants.{Run, Replay, Convert, Demo}
 use Rattle.command_words.specs.declared.job.Count.{Count}
@@ -42,7 +42,7 @@ count_named text = if bytes_eq text (codes "exhaustive") then Some Exhaustive
 -- the number of iterations that the words give, where they give that alone: 1 to 100,000
 abbrev pub iterations_in : List Text → Option ℕ
 iterations_in [] = None
-iterations_in (word ∷ []) = number_within 1 100000 word
+iterations_in (word ∷ []) = number_within 1 MOST_ITERATIONS word
 iterations_in (word ∷ more ∷ rest) = None
 
 -- ---- names, each with its value
@@ -52,28 +52,28 @@ pub record Given : Type 0 where
   pub name : Text
   pub value : Text
 
--- the word begins with a hyphen (45)
+-- the word begins with a hyphen
 abbrev pub is_hyphenated : Text → Bool
 is_hyphenated [] = false
-is_hyphenated (b ∷ bs) = b == 45
+is_hyphenated (b ∷ bs) = b == code "-"
 
 -- the word is `--` with more after it
 abbrev pub is_option : Text → Bool
 is_option [] = false
-is_option (b ∷ bs) = b == 45 && (is_hyphenated bs && nat_lt 1 (length bs))
+is_option (b ∷ bs) = b == code "-" && (is_hyphenated bs && nat_lt 1 (length bs))
 
 -- the word begins with a hyphen and is no option
 abbrev pub is_stray : Text → Bool
 is_stray word = is_hyphenated word && not (is_option word)
 
--- what stands before the first `=` (61)
+-- what stands before the first `=`
 abbrev pub name_in : Text → Text
-name_in text = before_first (λ b. b == 61) text
+name_in text = before_first (λ b. b == code "=") text
 
 -- what stands after the first `=`, if there is one
 abbrev pub value_in : Text → Option Text
 value_in text =
-    if list_any (λ b. b == 61) text then Some (after_first (λ b. b == 61) text) else None
+    if list_any (λ b. b == code "=") text then Some (after_first (λ b. b == code "=") text) else None
 
 abbrev pub is_among : Text → List Text → Bool
 is_among name names = list_any (λ other. bytes_eq other name) names
@@ -144,12 +144,12 @@ job_of value_of =
       cut = cut;
       order = order;
     }) (order_of (value_of (codes "order"))))
-    (or_else 4096 (number_within 1 65536) (value_of (codes "cut"))))
+    (or_else 4096 (number_within 1 MOST_PIECES) (value_of (codes "cut"))))
     (or_else Exhaustive count_named (value_of (codes "count"))))
     (or_else 8 (number_within 1 16) (value_of (codes "buffer"))))
     (or_else 64 (number_within 0 256) (value_of (codes "rate"))))
     (or_else 0 number_of (value_of (codes "seed"))))
-    (option_and_then (number_within 1 100000) (value_of (codes "N")))
+    (option_and_then (number_within 1 MOST_ITERATIONS) (value_of (codes "N")))
 
 -- the job that the words after `run` or `replay` name, where the options have these names
 abbrev pub job_in : List Text → List Text → Option Asked

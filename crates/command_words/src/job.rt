@@ -1,6 +1,6 @@
 //! Jobs, and the commands that ask for them.
+use perp_base::Options;
 use std::marker::Model;
-use tso_runs::Options;
 
 /// How the hits of a run are counted.
 #[derive(Clone, Copy, Debug, PartialEq, Eq)]

@@ -1,7 +1,8 @@
-//! The words of the command line. `read_words` reads them, those of `run` and `replay` by clap: an answer is the command that the
-//! definition `command_of` gives for the words (clause `ok`), and the words are refused as misused only where it gives none
-//! (clause `usage`). Each `Job` keeps that its numbers lie within their limits (`IsWithin`). `read_iterations` reads the words after a
-//! name where they are to be the number of iterations alone (`iterations_in`).
+//! The words of the command line. `read_words` reads them, those of `run` and `replay` by clap: an answer is the
+//! command that the definition `command_of` gives for the words (clause `ok`), and the words are refused as misused
+//! only where it gives none (clause `usage`). Each `Job` keeps that its numbers lie within their limits (`IsWithin`).
+//! `read_iterations` reads the words after a name where they are to be the number of iterations alone
+//! (`iterations_in`).
 #![tactic(auto)]
 
 mod job;
@@ -9,8 +10,8 @@ mod reading;
 mod values;
 
 pub use job::{Command, Count, Job};
+pub use perp_base::Options;
 pub use reading::{WordsError, read_iterations, read_words};
-pub use tso_runs::Options;
 
 #[cfg(test)]
 mod tests;

@@ -10,8 +10,8 @@ use crate::job::{Command, Count, Job};
 use crate::values::{count_or, number, number_or, order_in, read_within, within_or};
 use clap::error::ErrorKind;
 use clap::{Arg, ArgMatches};
+use perp_base::{MOST_ITERATIONS, MOST_PIECES, Options};
 use std::alloc::{AllocError, Global};
-use tso_runs::Options;
 
 /// Why the words give no command.
 #[derive(Clone, Copy, Debug, PartialEq, Eq)]
@@ -26,12 +26,12 @@ pub enum WordsError {
 fn job_from(matches: &ArgMatches) -> Option<Job>
     ensures { result ≡ job_of (first_value (found_of matches.now)) }
 {
-    let iterations = read_within(matches.get_str("N")?, 1, 100_000)?;
+    let iterations = read_within(matches.get_str("N")?, 1, MOST_ITERATIONS)?;
     let seed = number_or(matches.get_str("seed"), 0)?;
     let rate = within_or(matches.get_str("rate"), 64, 0, 256)?;
     let buffer = within_or(matches.get_str("buffer"), 8, 1, 16)?;
     let count = count_or(matches.get_str("count"), Count::Exhaustive)?;
-    let cut = within_or(matches.get_str("cut"), 4096, 1, 65536)?;
+    let cut = within_or(matches.get_str("cut"), 4096, 1, MOST_PIECES)?;
     let order = order_in(matches.get_str("order"))?;
     Some(Job {
         options: Options {
@@ -103,8 +103,10 @@ static REPLAY_NAMES: [&str; 6] = ["order", "seed", "rate", "buffer", "count", "c
 fn read_job<'a>(alloc: Global, words: &'a [String], names: &[&'a str]) -> Result<Job, WordsError>
     requires some { 0 < length words.now }
     requires no_count { is_among (codes "N") (texts names.now) ≡ false }
-    ensures ok { IfOk result (λ job. job_in (texts names.now) (drop 1 (map (λ w. string_bytes w) words.entry.now)) ≡ Some job) }
-    ensures usage { result ≡ Err WordsError.Usage → job_in (texts names.now) (drop 1 (map (λ w. string_bytes w) words.entry.now)) ≡ None }
+    ensures ok { IfOk result (λ job. job_in (texts names.now) (drop 1 (map (λ w. string_bytes w) words.entry.now))
+        ≡ Some job) }
+    ensures usage { result ≡ Err WordsError.Usage
+        → job_in (texts names.now) (drop 1 (map (λ w. string_bytes w) words.entry.now)) ≡ None }
 {
     if has_stray_word(&words[1..]) {
         return Err(WordsError::Usage);
@@ -124,14 +126,15 @@ fn read_job<'a>(alloc: Global, words: &'a [String], names: &[&'a str]) -> Result
     }
 }
 
-/// Reads the words after the first, the name of some command, as the number of iterations and nothing else, by clap. `Usage` comes
-/// exactly where they are not that; that memory is refused may come instead of either answer.
+/// Reads the words after the first, the name of some command, as the number of iterations and nothing else, by clap.
+/// `Usage` comes exactly where they are not that; that memory is refused may come instead of either answer.
 pub fn read_iterations(alloc: Global, words: &[String]) -> Result<u32, WordsError>
     requires { 0 < length words.now }
     ensures ok { IfOk result (λ n. iterations_in (drop 1 (map (λ w. string_bytes w) words.now)) ≡ Some n) }
-    ensures usage { result ≡ Err WordsError.Usage → iterations_in (drop 1 (map (λ w. string_bytes w) words.now)) ≡ None }
+    ensures usage { result ≡ Err WordsError.Usage
+        → iterations_in (drop 1 (map (λ w. string_bytes w) words.now)) ≡ None }
     ensures some { IfOk result (λ n. 1 ≤ n) }
-    ensures few { IfOk result (λ n. n ≤ 100000) }
+    ensures few { IfOk result (λ n. n ≤ MOST_ITERATIONS) }
 {
     let job = read_job(alloc, words, &[])?;
     Ok(job.options.iterations)
@@ -165,9 +168,9 @@ fn read_demo(words: &[String]) -> Result<Command, WordsError>
     }
 }
 
-/// The command that the words after the program's name give. `Usage` comes exactly where they are none of `run N`, `replay N`,
-/// `convert` and `demo K` with their options (`command_of`); that memory is refused may come at any words of `run` and `replay`,
-/// instead of either answer.
+/// The command that the words after the program's name give. `Usage` comes exactly where they are none of `run N`,
+/// `replay N`, `convert` and `demo K` with their options (`command_of`); that memory is refused may come at any words
+/// of `run` and `replay`, instead of either answer.
 pub fn read_words(alloc: Global, words: &[String]) -> Result<Command, WordsError>
     ensures ok { IfOk result (λ c. command_of (map (λ w. string_bytes w) words.now) ≡ Some c) }
     ensures usage { result ≡ Err WordsError.Usage → command_of (map (λ w. string_bytes w) words.now) ≡ None }

@@ -1,3 +1,4 @@
+//! Words that are commands, and words that are none.
 use crate::{Command, Count, Job, Options, WordsError, read_iterations, read_words};
 use std::alloc::{AllocError, Global};
 use std::test::Fail;
@@ -123,7 +124,7 @@ fn reads_lines(rt: HostRuntime) -> Result<(), Fail> {
     Ok(())
 }
 
-/// The number of iterations behind the name that begins a line.
+/// The number of iterations after the name that begins a line.
 fn iterations(alloc: Global, line: &str) -> Result<u32, WordsError> {
     let Ok(words) = words_of(alloc, line) else {
         return Err(WordsError::Memory);
@@ -134,7 +135,7 @@ fn iterations(alloc: Global, line: &str) -> Result<u32, WordsError> {
     read_iterations(alloc, &words)
 }
 
-/// A name, and behind it the number of iterations alone.
+/// A name, and after it the number of iterations alone.
 #[test]
 fn reads_iterations(rt: HostRuntime) -> Result<(), Fail> {
     let alloc = rt.alloc();

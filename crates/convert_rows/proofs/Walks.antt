@@ -13,31 +13,36 @@ use Rattle.x86_subset.specs.Test.{Code, LitmusTest, body_of}
 use Rattle.x86_subset.specs.declared.instr.Instr.{Instr}
 use Rattle.x86_subset.specs.declared.instr.Instr.TheVariants.{Store, Load, Fence, Exchange}
 use Rattle.seq_conv.specs.declared.site.Site.{Site}
-use Rattle.seq_conv.proofs.Lists.{each_append}
+use Rattle.perp_base.proofs.Lists.{each_append}
 use Rattle.seq_conv.proofs.Numbering.{next_item}
 use Rattle.report_text.specs.declared.conversion.ReadRow.{ReadRow}
 use Rattle.report_text.specs.declared.conversion.StoreRow.{StoreRow}
 use Rattle.convert_rows.specs.Rows.{location_taken, location_written, name_of, read_row, read_rows_at, row_by, rows_in_bodies, rows_in_body, store_row, store_rows_at}
 
 -- one image more
-pub map_more : {X Y : Type 0} (f : X → Y) (xs : List X) (i : ℕ) (x : X) (ys zs : List Y) (y : Y) → slice_get xs i ≡ Some x → zs ≡ ys ++ y ∷ [] → y ≡ f x →
+pub map_more : {X Y : Type 0} (f : X → Y) (xs : List X) (i : ℕ) (x : X) (ys zs : List Y) (y : Y)
+    → slice_get xs i ≡ Some x → zs ≡ ys ++ y ∷ [] → y ≡ f x →
     ys ≡ map f (take i xs) → zs ≡ map f (take (i + 1) xs)
 map_more f xs i x ys zs y at e g h =
     let lt = slice_get_within xs i x at in
     let here = get_or_from_slice_get xs i x x at in
     let one : i + 1 ≡ suc i = omega arith in
-    let whole : take (i + 1) xs ≡ take i xs ++ x ∷ [] = ap (λ n. take n xs) one ∙ take-suc xs i x lt ∙ ap (λ z. take i xs ++ z ∷ []) here in
-    e ∙ ap (λ l. l ++ y ∷ []) h ∙ ap (λ z. map f (take i xs) ++ z ∷ []) g ∙ sym (map-append f (take i xs) (x ∷ [])) ∙ ap (map f) (sym whole)
+    let whole : take (i + 1) xs ≡ take i xs ++ x ∷ [] = ap (λ n. take n xs) one ∙ take-suc xs i x lt
+    ∙ ap (λ z. take i xs ++ z ∷ []) here in
+    e ∙ ap (λ l. l ++ y ∷ []) h ∙ ap (λ z. map f (take i xs) ++ z ∷ []) g ∙ sym (map-append f (take i xs) (x ∷ []))
+    ∙ ap (map f) (sym whole)
 
 -- the rows of one thread more
-pub thread_more : {X : Type 0} (rows : Site → Instr → List X) (test : LitmusTest) (t : ℕ) (old new whole : List X) → t < length test.bodies →
+pub thread_more : {X : Type 0} (rows : Site → Instr → List X) (test : LitmusTest) (t : ℕ) (old new whole : List X)
+    → t < length test.bodies →
     new ≡ old ++ rows_in_body rows t 0 (body_of test t) → old ++ rows_in_bodies rows t (drop t test.bodies) ≡ whole →
     new ++ rows_in_bodies rows (t + 1) (drop (t + 1) test.bodies) ≡ whole
 thread_more rows test t old new whole lt e w =
     let s = next_item test.bodies t lt in
     let b : body_of test t ≡ s.here.actions = ap (λ o. option_map_or (λ (code : Code). code.actions) o []) s.at in
     let left = rows_in_bodies rows (t + 1) (drop (t + 1) test.bodies) in
-    ap (λ l. l ++ left) e ∙ ap (λ l. (old ++ rows_in_body rows t 0 l) ++ left) b ∙ append_assoc old (rows_in_body rows t 0 s.here.actions) left
+    ap (λ l. l ++ left) e ∙ ap (λ l. (old ++ rows_in_body rows t 0 l) ++ left) b
+    ∙ append_assoc old (rows_in_body rows t 0 s.here.actions) left
     ∙ ap (λ l. old ++ rows_in_bodies rows t l) (sym s.cut) ∙ w
 
 -- what writes to x is a store to it
@@ -53,17 +58,21 @@ row_holds : {X : Type 0} (P : X → Type 0) (row : ℕ → X) (o : Option ℕ) �
 row_holds P row None h = tt
 row_holds P row (Some x) h = (h x, tt)
 
-body_holds : {X : Type 0} (P : X → Type 0) (rows : Site → Instr → List X) (t p : ℕ) (body : List Instr) → ((s : Site) (a : Instr) → Each P (rows s a)) →
+body_holds : {X : Type 0} (P : X → Type 0) (rows : Site → Instr → List X) (t p : ℕ) (body : List Instr)
+    → ((s : Site) (a : Instr) → Each P (rows s a)) →
     Each P (rows_in_body rows t p body)
 body_holds P rows t p [] h = tt
 body_holds P rows t p (a ∷ body) h =
-    each_append P (rows (record { thread = t; place = p }) a) (rows_in_body rows t (p + 1) body) (h (record { thread = t; place = p }) a) (body_holds P rows t (p + 1) body h)
+    each_append P (rows (record { thread = t; place = p }) a) (rows_in_body rows t (p + 1) body)
+    (h (record { thread = t; place = p }) a) (body_holds P rows t (p + 1) body h)
 
-bodies_hold : {X : Type 0} (P : X → Type 0) (rows : Site → Instr → List X) (t : ℕ) (codes : List Code) → ((s : Site) (a : Instr) → Each P (rows s a)) →
+bodies_hold : {X : Type 0} (P : X → Type 0) (rows : Site → Instr → List X) (t : ℕ) (codes : List Code)
+    → ((s : Site) (a : Instr) → Each P (rows s a)) →
     Each P (rows_in_bodies rows t codes)
 bodies_hold P rows t [] h = tt
 bodies_hold P rows t (code ∷ codes) h =
-    each_append P (rows_in_body rows t 0 code.actions) (rows_in_bodies rows (t + 1) codes) (body_holds P rows t 0 code.actions h) (bodies_hold P rows (t + 1) codes h)
+    each_append P (rows_in_body rows t 0 code.actions) (rows_in_bodies rows (t + 1) codes)
+    (body_holds P rows t 0 code.actions h) (bodies_hold P rows (t + 1) codes h)
 
 name_by : (names : List (List ℕ)) (x : ℕ) → Each IsAscii names → IsAscii (unwrap_or (slice_get names x) [])
 name_by [] x h = IsAscii-nil
@@ -73,14 +82,18 @@ name_by (name ∷ names) (suc x) h = name_by names x h.1
 ascii_name : (test : LitmusTest) (x : ℕ) → All IsAscii test.locations → IsAscii (name_of test x)
 ascii_name test x h = name_by test.locations x (recursion_from_All IsAscii test.locations h)
 
-pub ascii_stores : (test : LitmusTest) → All IsAscii test.locations → All (λ (row : StoreRow). IsAscii row.loc) (rows_in_bodies (store_rows_at test) 0 test.bodies)
+pub ascii_stores : (test : LitmusTest) → All IsAscii test.locations
+    → All (λ (row : StoreRow). IsAscii row.loc) (rows_in_bodies (store_rows_at test) 0 test.bodies)
 ascii_stores test h =
     All-from_recursion (λ (row : StoreRow). IsAscii row.loc) (rows_in_bodies (store_rows_at test) 0 test.bodies)
     (bodies_hold (λ (row : StoreRow). IsAscii row.loc) (store_rows_at test) 0 test.bodies
-    (λ s a. row_holds (λ (row : StoreRow). IsAscii row.loc) (store_row test s) (location_written a) (λ x. ascii_name test x h)))
+    (λ s a. row_holds (λ (row : StoreRow). IsAscii row.loc) (store_row test s) (location_written a)
+    (λ x. ascii_name test x h)))
 
-pub ascii_reads : (test : LitmusTest) → All IsAscii test.locations → All (λ (row : ReadRow). IsAscii row.loc) (rows_in_bodies (read_rows_at test) 0 test.bodies)
+pub ascii_reads : (test : LitmusTest) → All IsAscii test.locations
+    → All (λ (row : ReadRow). IsAscii row.loc) (rows_in_bodies (read_rows_at test) 0 test.bodies)
 ascii_reads test h =
     All-from_recursion (λ (row : ReadRow). IsAscii row.loc) (rows_in_bodies (read_rows_at test) 0 test.bodies)
     (bodies_hold (λ (row : ReadRow). IsAscii row.loc) (read_rows_at test) 0 test.bodies
-    (λ s a. row_holds (λ (row : ReadRow). IsAscii row.loc) (read_row test s) (location_taken a) (λ x. ascii_name test x h)))
+    (λ s a. row_holds (λ (row : ReadRow). IsAscii row.loc) (read_row test s) (location_taken a)
+    (λ x. ascii_name test x h)))

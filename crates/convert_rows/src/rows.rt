@@ -111,7 +111,8 @@ fn add_stores(
     requires test { IsTest test.now }
     requires sequences { AreOf test.now sequences.now }
     requires thread { thread < length test.now.bodies }
-    ensures { OnOk result (rows.new.items ≡ rows.old.items ++ rows_in_body (store_rows_at test.now) thread 0 (body_of test.now thread)) }
+    ensures { OnOk result (rows.new.items ≡ rows.old.items
+        ++ rows_in_body (store_rows_at test.now) thread 0 (body_of test.now thread)) }
 {
     let body = test.body(thread);
     for place in 0..body.len() {
@@ -136,7 +137,8 @@ fn add_reads(
 ) -> Result<(), NoMemory>
     requires test { IsTest test.now }
     requires thread { thread < length test.now.bodies }
-    ensures { OnOk result (rows.new.items ≡ rows.old.items ++ rows_in_body (read_rows_at test.now) thread 0 (body_of test.now thread)) }
+    ensures { OnOk result (rows.new.items ≡ rows.old.items
+        ++ rows_in_body (read_rows_at test.now) thread 0 (body_of test.now thread)) }
 {
     let body = test.body(thread);
     for place in 0..body.len() {
@@ -208,8 +210,8 @@ fn atom_rows(alloc: Global, conds: &Conds) -> Result<Vec<AtomRow>, NoMemory>
     Ok(rows)
 }
 
-/// What a conversion says of a checked test: the sequence of each store and exchange, and the column of each load and exchange,
-/// by thread and then by place; and what each atom asks of a logged value, in the order of the text.
+/// What a conversion says of a checked test: the sequence of each store and exchange, and the column of each load and
+/// exchange, by thread and then by place; and what each atom asks of a logged value, in the order of the text.
 pub fn conversion(
     alloc: Global,
     checked: &Checked,

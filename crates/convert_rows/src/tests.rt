@@ -1,3 +1,4 @@
+//! The rows of worked tests.
 ghost use Rattle.std.specs.Prelude.{◌<◌, ◌≤◌, All, IfOk, IfSome, IsTrue, length};
 ghost use Rattle.std.specs.Str.{IsAscii};
 ghost use Rattle.x86_subset.specs.Conjunctions.{AreEnds};
@@ -16,13 +17,10 @@ use x86_subset::{Atom, Body, Instr, Quantifier, Reg, Test};
 fn located(action: Instr) -> Option<Instr>
     ensures { IfSome result (λ a. IfSome (location_of a) (λ x. x < 2)) }
 {
-    let is_low = match action {
-        Instr::Store { loc, .. } => loc < 2,
-        Instr::Load { loc, .. } => loc < 2,
-        Instr::Exchange { loc, .. } => loc < 2,
-        Instr::Fence => true,
-    };
-    if is_low { Some(action) } else { None }
+    match action.location() {
+        Some(loc) if 2 <= loc => None,
+        _ => Some(action),
+    }
 }
 
 fn body(alloc: Global, actions: &[Instr]) -> Result<Body, Fail>
@@ -49,7 +47,7 @@ fn bodies(alloc: Global, threads: &[&[Instr]]) -> Result<Vec<Body>, Fail>
     Ok(bodies)
 }
 
-// These threads over x and y, with a condition of these atoms.
+/// These threads over x and y, with a condition of these atoms.
 fn test(
     alloc: Global,
     name: &[u8],
@@ -80,7 +78,7 @@ fn are_ascii(names: &[Name]) -> bool
     true
 }
 
-// The text of a test's conversion.
+/// The text of a test's conversion.
 fn text_of(alloc: Global, test: Test) -> Result<String, Fail> {
     let checked = check(alloc, test)?;
     let sequences = Sequences::of(alloc, checked.test())?;

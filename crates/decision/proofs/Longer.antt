@@ -1,4 +1,4 @@
--- A run that shows a conjunction begins runs of any number of iterations: behind it each action is done by itself.
+-- A run that shows a conjunction begins runs of any number of iterations: after it each action is done by itself.
 use Rattle.std.proofs.Common.{◌≡◌, ℕ, zero, suc, ◌+◌, ◌*◌, ◌^◌, ◌<◌, ◌≤◌, ◌==◌, Bool, true, false, cond, not, ◌||◌, List, [], ◌∷◌, ◌++◌, length, filter, filter_map, drop, get_or, slice_get, replicate, refl, sym, ap, ◌∙◌, arith, subst, inl, inr, ◌⊎◌, append-nil, append_assoc, eq-eqb, ne_eqb, zero-mul, zero-add}
 use Rattle.std.proofs.lemmas.Bool.{cases_eq, true≢false}
 use Rattle.std.proofs.lemmas.List.{length-replicate}
@@ -7,16 +7,16 @@ use Rattle.std.specs.List.{AllZip, AllByRecursion as Each, list_all, list_any, r
 use Rattle.x86_subset.specs.Test.{LitmusTest, body_of, column_of, columns_of}
 use Rattle.x86_subset.specs.declared.instr.Instr.{Instr}
 use Rattle.x86_subset.specs.declared.instr.Instr.TheVariants.{Store, Load, Fence, Exchange}
-use Rattle.seq_conv.specs.Event.{Event, Kind, Push, Drain, Read, Fenced, Exchanged, is_drain}
-use Rattle.seq_conv.specs.Frame.{frame_number, frame_of, frames_of}
-use Rattle.seq_conv.specs.Log.{log_of, value_read}
-use Rattle.seq_conv.specs.Machine.{State, Steps, after, after_all, initial, readable, write_of}
-use Rattle.seq_conv.specs.Part.{Fills, Gives, Slot, part_of, slots_of_body, slots_of_loop}
-use Rattle.seq_conv.specs.Run.{IsRunOf}
+use Rattle.tso_machine.specs.Event.{Event, Kind, Push, Drain, Read, Fenced, Exchanged, is_drain}
+use Rattle.tso_machine.specs.Frame.{frame_number, frame_of, frames_of}
+use Rattle.tso_machine.specs.Log.{log_of, value_read}
+use Rattle.tso_machine.specs.Machine.{State, Steps, after, after_all, initial, readable, write_of}
+use Rattle.tso_machine.specs.Part.{Fills, Gives, Slot, part_of, slots_of_body, slots_of_loop}
+use Rattle.tso_machine.specs.Run.{IsRunOf}
 use Rattle.seq_conv.specs.Sequence.{site_location}
-use Rattle.seq_conv.proofs.Frames.{frame_back, number_below}
-use Rattle.seq_conv.proofs.Lists.{any_map, each_among, each_append, each_from_among, each_weaker}
-use Rattle.seq_conv.proofs.ReadEvents.{logs_are_whole_lem}
+use Rattle.tso_machine.proofs.Frames.{frame_back, number_below}
+use Rattle.perp_base.proofs.Lists.{any_map, each_among, each_append, each_from_among, each_weaker}
+use Rattle.tso_machine.proofs.ReadEvents.{logs_are_whole_lem}
 use Rattle.profile_check.specs.Profile.{CheckedTest, IsChecked}
 use Rattle.profile_check.specs.declared.kind.AtomKind.{AtomKind}
 use Rattle.profile_check.specs.declared.kind.AtomKind.TheVariants.{Rf, Fr, Exact}
@@ -35,17 +35,20 @@ use Rattle.decision.proofs.Deciding.{zeros_frame}
 use Rattle.decision.proofs.Finish.{all_from, each_all, zero_at}
 use Rattle.decision.proofs.Hits.{any_range, holds_is_hit}
 
--- Events behind events.
+-- Events after events.
 
-steps_join : (test : LitmusTest) (s : State) (xs ys : List Event) → Steps test s xs → Steps test (after_all test s xs) ys → Steps test s (xs ++ ys)
+steps_join : (test : LitmusTest) (s : State) (xs ys : List Event) → Steps test s xs
+    → Steps test (after_all test s xs) ys → Steps test s (xs ++ ys)
 steps_join test s [] ys h k = k
 steps_join test s (x ∷ xs) ys h k = (h.0, steps_join test (after test s x) xs ys h.1 k)
 
-after_join : (test : LitmusTest) (s : State) (xs ys : List Event) → after_all test s (xs ++ ys) ≡ after_all test (after_all test s xs) ys
+after_join : (test : LitmusTest) (s : State) (xs ys : List Event)
+    → after_all test s (xs ++ ys) ≡ after_all test (after_all test s xs) ys
 after_join test s [] ys = refl
 after_join test s (x ∷ xs) ys = after_join test (after test s x) xs ys
 
-zip_join : {A B : Type 0} (R : A → B → Type 0) (xs : List A) (ys : List B) (us : List A) (vs : List B) → AllZip R xs ys → AllZip R us vs → AllZip R (xs ++ us) (ys ++ vs)
+zip_join : {A B : Type 0} (R : A → B → Type 0) (xs : List A) (ys : List B) (us : List A) (vs : List B) → AllZip R xs ys
+    → AllZip R us vs → AllZip R (xs ++ us) (ys ++ vs)
 zip_join R [] [] us vs h k = k
 zip_join R [] (y ∷ ys) us vs h k = absurd h
 zip_join R (x ∷ xs) [] us vs h k = absurd h
@@ -69,30 +72,55 @@ record Alone (test : LitmusTest) (t : ℕ) (slots : List Slot) (s : State) : Typ
   fills : AllZip (Fills t) slots (filter nd events)
   own : Each (λ e. e.thread ≡ t) events
 
-fills_slot : (t : ℕ) (slot : Slot) (a : Instr) (k : Kind) → slot.action ≡ a → Gives a k → Fills t slot (slot_event t slot k)
-fills_slot t slot a k h g = let G : Instr → Type 0 = λ z. Gives z k in record { thread = refl; iteration = refl; place = refl; kind = subst G (sym h) g }
+fills_slot : (t : ℕ) (slot : Slot) (a : Instr) (k : Kind) → slot.action ≡ a → Gives a k
+    → Fills t slot (slot_event t slot k)
+fills_slot t slot a k h g =
+    let G : Instr → Type 0 = λ z. Gives z k in
+    record { thread = refl; iteration = refl; place = refl; kind = subst G (sym h) g }
 
-alone_one : (test : LitmusTest) (t : ℕ) (slot : Slot) (s : State) (a : Instr) → Quiet s → slot.action ≡ a → Alone test t (slot ∷ []) s
+alone_one : (test : LitmusTest) (t : ℕ) (slot : Slot) (s : State) (a : Instr) → Quiet s → slot.action ≡ a
+    → Alone test t (slot ∷ []) s
 alone_one test t slot s (Store loc written) q h =
     let push = slot_event t slot Push in
     let drain = slot_event t slot Drain in
     let s1 = after test s push in
     let full = s.buffer t ++ write_of test push ∷ [] in
-    let here : s1.buffer t ≡ write_of test push ∷ [] = mark_at (λ b. b ≡ write_of test push ∷ []) s.buffer t full t (λ e. ap (λ b. b ++ write_of test push ∷ []) (q t)) (λ ne. absurd (ne refl)) in
+    let here : s1.buffer t ≡ write_of test push ∷ [] = mark_at (λ b. b ≡ write_of test push ∷ []) s.buffer t full t
+    (λ e. ap (λ b. b ++ write_of test push ∷ []) (q t)) (λ ne. absurd (ne refl)) in
     record {
       events = push ∷ drain ∷ [];
       steps = (tt, (ap (λ b. slice_get b 0) here, tt));
-      quiet = λ u. mark_at (λ b. b ≡ []) s1.buffer t (drop 1 (s1.buffer t)) u (λ e. ap (drop 1) here) (λ ne. mark_at (λ b. b ≡ []) s.buffer t full u (λ e. absurd (ne e)) (λ n. q u));
+      quiet =
+          λ u. mark_at (λ b. b ≡ []) s1.buffer t (drop 1 (s1.buffer t)) u (λ e. ap (drop 1) here)
+          (λ ne. mark_at (λ b. b ≡ []) s.buffer t full u (λ e. absurd (ne e)) (λ n. q u));
       fills = (fills_slot t slot (Store loc written) Push h tt, tt);
       own = (refl, (refl, tt));
     }
 alone_one test t slot s (Load reg loc) q h =
     let v = readable s t (site_location test (record { thread = t; place = slot.place })) in
-    record { events = slot_event t slot (Read v) ∷ []; steps = (refl, tt); quiet = q; fills = (fills_slot t slot (Load reg loc) (Read v) h tt, tt); own = (refl, tt) }
-alone_one test t slot s Fence q h = record { events = slot_event t slot Fenced ∷ []; steps = (q t, tt); quiet = q; fills = (fills_slot t slot Fence Fenced h tt, tt); own = (refl, tt) }
+    record {
+      events = slot_event t slot (Read v) ∷ [];
+      steps = (refl, tt);
+      quiet = q;
+      fills = (fills_slot t slot (Load reg loc) (Read v) h tt, tt);
+      own = (refl, tt);
+    }
+alone_one test t slot s Fence q h = record {
+  events = slot_event t slot Fenced ∷ [];
+  steps = (q t, tt);
+  quiet = q;
+  fills = (fills_slot t slot Fence Fenced h tt, tt);
+  own = (refl, tt);
+}
 alone_one test t slot s (Exchange loc written reg) q h =
     let v = s.memory (site_location test (record { thread = t; place = slot.place })) in
-    record { events = slot_event t slot (Exchanged v) ∷ []; steps = ((q t, refl), tt); quiet = q; fills = (fills_slot t slot (Exchange loc written reg) (Exchanged v) h tt, tt); own = (refl, tt) }
+    record {
+      events = slot_event t slot (Exchanged v) ∷ [];
+      steps = ((q t, refl), tt);
+      quiet = q;
+      fills = (fills_slot t slot (Exchange loc written reg) (Exchanged v) h tt, tt);
+      own = (refl, tt);
+    }
 
 alone_all : (test : LitmusTest) (t : ℕ) (slots : List Slot) (s : State) → Quiet s → Alone test t slots s
 alone_all test t [] s q = record { events = []; steps = tt; quiet = q; fills = tt; own = tt }
@@ -104,11 +132,13 @@ alone_all test t (slot ∷ slots) s q =
       events = a.events ++ b.events;
       steps = steps_join test s a.events b.events a.steps b.steps;
       quiet = subst Quiet (sym (after_join test s a.events b.events)) b.quiet;
-      fills = subst F (sym (filter-append nd a.events b.events)) (zip_join (Fills t) (slot ∷ []) (filter nd a.events) slots (filter nd b.events) a.fills b.fills);
+      fills =
+          subst F (sym (filter-append nd a.events b.events)) (zip_join (Fills t) (slot ∷ []) (filter nd a.events) slots
+          (filter nd b.events) a.fills b.fills);
       own = each_append (λ e. e.thread ≡ t) a.events b.events a.own b.own;
     }
 
--- One thread behind the other.
+-- One thread after the other.
 
 part_own : (t : ℕ) (es : List Event) → Each (λ e. e.thread ≡ t) es → part_of t es ≡ es
 part_own t [] h = refl
@@ -127,7 +157,14 @@ record Rest (test : LitmusTest) (more : ℕ → List Slot) (k : ℕ) (s : State)
   threads : Each (λ e. e.thread < k) events
 
 rest_of : (test : LitmusTest) (more : ℕ → List Slot) (k : ℕ) (s : State) → Quiet s → Rest test more k s
-rest_of test more zero s q = record { events = []; steps = tt; quiet = q; filled = λ t l. absurd (omega arith); none = λ t l. refl; threads = tt }
+rest_of test more zero s q = record {
+  events = [];
+  steps = tt;
+  quiet = q;
+  filled = λ t l. absurd (omega arith);
+  none = λ t l. refl;
+  threads = tt;
+}
 rest_of test more (suc k) s q =
     let r = rest_of test more k s q in
     let a = alone_all test k (more k) (after_all test s r.events) r.quiet in
@@ -138,19 +175,26 @@ rest_of test more (suc k) s q =
       quiet = subst Quiet (sym (after_join test s r.events a.events)) a.quiet;
       filled = λ t l. by r a t l (cases_eq k t);
       none = λ t l. both t ∙ (λ i. r.none t (omega arith) i ++ part_other t k a.events (λ e. omega arith) a.own i);
-      threads = each_append (λ e. e.thread < suc k) r.events a.events (each_weaker (λ (e : Event). e.thread < k) (λ (e : Event). e.thread < suc k) (λ e l. omega arith) r.events r.threads)
-          (each_weaker (λ (e : Event). e.thread ≡ k) (λ (e : Event). e.thread < suc k) (λ e h. omega arith) a.events a.own);
+      threads =
+          each_append (λ e. e.thread < suc k) r.events a.events (each_weaker (λ (e : Event). e.thread < k)
+          (λ (e : Event). e.thread < suc k) (λ e l. omega arith) r.events r.threads)
+          (each_weaker (λ (e : Event). e.thread ≡ k) (λ (e : Event). e.thread < suc k)
+          (λ e h. omega arith) a.events a.own);
     }
   where
-    by : (r : Rest test more k s) (a : Alone test k (more k) (after_all test s r.events)) (t : ℕ) → t < suc k → (k ≡ t) ⊎ (k ≡ t → ⊥) → AllZip (Fills t) (more t) (filter nd (part_of t (r.events ++ a.events)))
+    by : (r : Rest test more k s) (a : Alone test k (more k) (after_all test s r.events)) (t : ℕ) → t < suc k
+        → (k ≡ t) ⊎ (k ≡ t → ⊥) → AllZip (Fills t) (more t) (filter nd (part_of t (r.events ++ a.events)))
     by r a t l (inl e) =
-        let part : part_of k (r.events ++ a.events) ≡ a.events = filter-append (λ (e : Event). e.thread == k) r.events a.events ∙ (λ i. r.none k (omega arith) i ++ part_own k a.events a.own i) in
+        let part : part_of k (r.events ++ a.events) ≡ a.events = filter-append
+        (λ (e : Event). e.thread == k) r.events a.events
+        ∙ (λ i. r.none k (omega arith) i ++ part_own k a.events a.own i) in
         let F : List Event → Type 0 = λ z. AllZip (Fills k) (more k) (filter nd z) in
         let G : ℕ → Type 0 = λ u. AllZip (Fills u) (more u) (filter nd (part_of u (r.events ++ a.events))) in
         subst G e (subst F (sym part) a.fills)
     by r a t l (inr ne) =
         let part : part_of t (r.events ++ a.events) ≡ part_of t r.events =
-        filter-append (λ (e : Event). e.thread == t) r.events a.events ∙ ap (λ z. part_of t r.events ++ z) (part_other t k a.events ne a.own) ∙ append-nil (part_of t r.events) in
+        filter-append (λ (e : Event). e.thread == t) r.events a.events
+        ∙ ap (λ z. part_of t r.events ++ z) (part_other t k a.events ne a.own) ∙ append-nil (part_of t r.events) in
         let F : List Event → Type 0 = λ z. AllZip (Fills t) (more t) (filter nd z) in
         subst F (sym part) (r.filled t (omega arith))
 
@@ -162,7 +206,9 @@ more_slots body (suc m) = more_slots body m ++ slots_of_body (suc m) 0 body
 
 loop_cut : (body : List Instr) (m : ℕ) → slots_of_loop body (suc m) ≡ slots_of_loop body 1 ++ more_slots body m
 loop_cut body zero = sym (append-nil (slots_of_loop body 1))
-loop_cut body (suc m) = ap (λ l. l ++ slots_of_body (suc m) 0 body) (loop_cut body m) ∙ append_assoc (slots_of_loop body 1) (more_slots body m) (slots_of_body (suc m) 0 body)
+loop_cut body (suc m) =
+    ap (λ l. l ++ slots_of_body (suc m) 0 body) (loop_cut body m)
+    ∙ append_assoc (slots_of_loop body 1) (more_slots body m) (slots_of_body (suc m) 0 body)
 
 record Longer (test : LitmusTest) (m : ℕ) (run : List Event) : Type 0 where
   events : List Event
@@ -175,17 +221,26 @@ longer_of test m run h =
     record {
       events = r.events;
       is_run = record {
-        legal = record { steps = steps_join test initial run r.events h.legal.steps r.steps; drained = λ t. ap (λ (z : State). z.buffer t) (after_join test initial run r.events) ∙ r.quiet t };
+        legal =
+            record {
+              steps = steps_join test initial run r.events h.legal.steps r.steps;
+              drained = λ t. ap (λ (z : State). z.buffer t) (after_join test initial run r.events) ∙ r.quiet t;
+            };
         performs = λ t l.
             let body = body_of test t in
-            let zip = zip_join (Fills t) (slots_of_loop body 1) (filter nd (part_of t run)) (more_slots body m) (filter nd (part_of t r.events)) (h.performs t l) (r.filled t l) in
-            let part : filter nd (part_of t (run ++ r.events)) ≡ filter nd (part_of t run) ++ filter nd (part_of t r.events) =
-            ap (filter nd) (filter-append (λ (e : Event). e.thread == t) run r.events) ∙ filter-append nd (part_of t run) (part_of t r.events) in
+            let zip = zip_join (Fills t) (slots_of_loop body 1) (filter nd (part_of t run)) (more_slots body m)
+            (filter nd (part_of t r.events)) (h.performs t l) (r.filled t l) in
+            let part : filter nd (part_of t (run ++ r.events)) ≡ filter nd (part_of t run)
+            ++ filter nd (part_of t r.events) =
+            ap (filter nd) (filter-append (λ (e : Event). e.thread == t) run r.events)
+            ∙ filter-append nd (part_of t run) (part_of t r.events) in
             let F : List Event → Type 0 = λ z. AllZip (Fills t) (slots_of_loop body (suc m)) z in
-            let G : List Slot → Type 0 = λ z. AllZip (Fills t) z (filter nd (part_of t run) ++ filter nd (part_of t r.events)) in
+            let G : List Slot → Type 0 = λ z. AllZip (Fills t) z (filter nd (part_of t run)
+            ++ filter nd (part_of t r.events)) in
             subst F (sym part) (subst G (sym (loop_cut body m)) zip);
         threads = All-from_recursion (λ e. e.thread < length test.bodies) (run ++ r.events)
-            (each_append (λ e. e.thread < length test.bodies) run r.events (recursion_from_All (λ e. e.thread < length test.bodies) run h.threads) r.threads);
+            (each_append (λ e. e.thread < length test.bodies) run r.events
+            (recursion_from_All (λ e. e.thread < length test.bodies) run h.threads) r.threads);
       };
     }
 
@@ -196,29 +251,45 @@ get_first [] ys i l = absurd (omega arith)
 get_first (x ∷ xs) ys zero l = refl
 get_first (x ∷ xs) ys (suc i) l = get_first xs ys i (omega arith)
 
-same_logged : (test : LitmusTest) (run more : List Event) (t column place : ℕ) (action : Instr) → IsRunOf test 1 run → IsReader test t column place action → logged_in test (run ++ more) t column 0 ≡ logged_in test run t column 0
+same_logged : (test : LitmusTest) (run more : List Event) (t column place : ℕ) (action : Instr) → IsRunOf test 1 run
+    → IsReader test t column place action → logged_in test (run ++ more) t column 0 ≡ logged_in test run t column 0
 same_logged test run more t column place action h r =
     let l = thread_below test t place action r.stands in
     let long : length (log_of t run) ≡ 1 * columns_of test t = logs_are_whole_lem test 1 run t h l in
-    let below : column_of test t place < columns_of test t = column_below test t place (record { thread = l; action = action; stands = r.stands; reading = r.reading }) in
+    let below : column_of test t place < columns_of test t = column_below test t place
+    (record { thread = l; action = action; stands = r.stands; reading = r.reading }) in
     let col : column ≡ column_of test t place = r.column_is in
-    let at : 0 * columns_of test t + column ≡ column = ap (λ z. z + column) (zero-mul (columns_of test t)) ∙ zero-add column in
-    let cut : log_of t (run ++ more) ≡ log_of t run ++ log_of t more = ap (filter_map value_read) (filter-append (λ (e : Event). e.thread == t) run more) ∙ filter_map-append value_read (part_of t run) (part_of t more) in
-    (λ i. get_or (cut i) (at i) 0) ∙ get_first (log_of t run) (log_of t more) column (omega arith) ∙ sym (ap (λ i. get_or (log_of t run) i 0) at)
+    let at : 0 * columns_of test t + column ≡ column = ap (λ z. z + column) (zero-mul (columns_of test t))
+    ∙ zero-add column in
+    let cut : log_of t (run ++ more) ≡ log_of t run
+    ++ log_of t more = ap (filter_map value_read) (filter-append (λ (e : Event). e.thread == t) run more)
+    ∙ filter_map-append value_read (part_of t run) (part_of t more) in
+    (λ i. get_or (cut i) (at i) 0) ∙ get_first (log_of t run) (log_of t more) column (omega arith)
+    ∙ sym (ap (λ i. get_or (log_of t run) i 0) at)
 
-same_kind : (test : LitmusTest) (run more : List Event) (kind : AtomKind) (t column place : ℕ) (action : Instr) → IsRunOf test 1 run → IsReader test t column place action → (cond_of test kind).reader ≡ t → (cond_of test kind).column ≡ column
-    → cond_holds (logged_in test (run ++ more)) (zeros test) (cond_of test kind) ≡ cond_holds (logged_in test run) (zeros test) (cond_of test kind)
+same_kind : (test : LitmusTest) (run more : List Event) (kind : AtomKind) (t column place : ℕ) (action : Instr)
+    → IsRunOf test 1 run → IsReader test t column place action → (cond_of test kind).reader ≡ t
+    → (cond_of test kind).column ≡ column
+    → cond_holds (logged_in test (run ++ more)) (zeros test) (cond_of test kind)
+    ≡ cond_holds (logged_in test run) (zeros test) (cond_of test kind)
 same_kind test run more kind t column place action h r e f =
     let c = cond_of test kind in
     let i = zero_at (length test.bodies) c.reader in
-    let v : logged_in test (run ++ more) c.reader c.column (iteration_in (zeros test) c.reader) ≡ logged_in test run c.reader c.column (iteration_in (zeros test) c.reader) =
-    (λ j. logged_in test (run ++ more) (e j) (f j) (i j)) ∙ same_logged test run more t column place action h r ∙ (λ j. logged_in test run (sym e j) (sym f j) (sym i j)) in
+    let v : logged_in test (run ++ more) c.reader c.column (iteration_in (zeros test) c.reader)
+    ≡ logged_in test run c.reader c.column (iteration_in (zeros test) c.reader) =
+    (λ j. logged_in test (run ++ more) (e j) (f j) (i j)) ∙ same_logged test run more t column place action h r
+    ∙ (λ j. logged_in test run (sym e j) (sym f j) (sym i j)) in
     ap (λ z. kind_holds c.kind z (iteration_in (zeros test) c.writer)) v
 
-same_cond : (test : LitmusTest) (run more : List Event) (kind : AtomKind) → IsRunOf test 1 run → Tells test kind → cond_holds (logged_in test (run ++ more)) (zeros test) (cond_of test kind) ≡ cond_holds (logged_in test run) (zeros test) (cond_of test kind)
-same_cond test run more (Rf t column writer place) h tells = same_kind test run more (Rf t column writer place) t column tells.place tells.action h tells.reader refl refl
-same_cond test run more (Fr t column writer) h tells = same_kind test run more (Fr t column writer) t column tells.place tells.action h tells.reader refl refl
-same_cond test run more (Exact t column writer place) h tells = same_kind test run more (Exact t column writer place) t column tells.place tells.action h tells.reader refl refl
+same_cond : (test : LitmusTest) (run more : List Event) (kind : AtomKind) → IsRunOf test 1 run → Tells test kind
+    → cond_holds (logged_in test (run ++ more)) (zeros test) (cond_of test kind)
+    ≡ cond_holds (logged_in test run) (zeros test) (cond_of test kind)
+same_cond test run more (Rf t column writer place) h tells =
+    same_kind test run more (Rf t column writer place) t column tells.place tells.action h tells.reader refl refl
+same_cond test run more (Fr t column writer) h tells =
+    same_kind test run more (Fr t column writer) t column tells.place tells.action h tells.reader refl refl
+same_cond test run more (Exact t column writer place) h tells =
+    same_kind test run more (Exact t column writer place) t column tells.place tells.action h tells.reader refl refl
 
 -- So the atoms hold in the longer run.
 
@@ -227,9 +298,14 @@ each_below zero n l = tt
 each_below (suc k) n l = (omega arith, each_below k n l)
 
 frame_zeros : (test : LitmusTest) (n : ℕ) → 1 ≤ n → IsFrame test n (zeros test)
-frame_zeros test n l = record { one_each = length-replicate (length test.bodies) 0; below = All-from_recursion (λ i. i < n) (zeros test) (each_below (length test.bodies) n l) }
+frame_zeros test n l = record {
+  one_each = length-replicate (length test.bodies) 0;
+  below = All-from_recursion (λ i. i < n) (zeros test) (each_below (length test.bodies) n l);
+}
 
-longer_holds : (checked : CheckedTest) (c m : ℕ) (run more : List Event) → IsChecked checked → Shows checked c run → IsRunOf checked.test (suc m) (run ++ more) → list_all (holds_in checked.test (run ++ more) (zeros checked.test)) (kinds_in checked c) ≡ true
+longer_holds : (checked : CheckedTest) (c m : ℕ) (run more : List Event) → IsChecked checked → Shows checked c run
+    → IsRunOf checked.test (suc m) (run ++ more)
+    → list_all (holds_in checked.test (run ++ more) (zeros checked.test)) (kinds_in checked c) ≡ true
 longer_holds checked c m run more h s is =
     let test = checked.test in
     let kinds = kinds_in checked c in
@@ -240,7 +316,9 @@ longer_holds checked c m run more h s is =
     all_from (holds_in test (run ++ more) (zeros test)) kinds
     (each_from_among Q kinds (λ kind am.
     let k = each_among (Tells test) kind kinds am tells in
-    sym (agrees_by test (suc m) (run ++ more) (zeros test) kind is (frame_zeros test (suc m) (omega arith)) k) ∙ same_cond test run more kind s.0 k ∙ agrees_by test 1 run (zeros test) kind s.0 (zeros_frame test) k ∙ each_among P kind kinds am old))
+    sym (agrees_by test (suc m) (run ++ more) (zeros test) kind is (frame_zeros test (suc m) (omega arith)) k)
+    ∙ same_cond test run more kind s.0 k ∙ agrees_by test 1 run (zeros test) kind s.0 (zeros_frame test) k
+    ∙ each_among P kind kinds am old))
 
 -- And so it has a hit.
 
@@ -248,11 +326,13 @@ filter_none : {X : Type 0} (p : X → Bool) (xs : List X) → filter p xs ≡ []
 filter_none p [] h = refl
 filter_none p (x ∷ xs) h = go (filter_none p xs) (p x) refl h
   where
-    go : (filter p xs ≡ [] → list_any p xs ≡ false) → (b : Bool) → p x ≡ b → cond b (x ∷ filter p xs) (filter p xs) ≡ [] → p x || list_any p xs ≡ false
+    go : (filter p xs ≡ [] → list_any p xs ≡ false) → (b : Bool) → p x ≡ b → cond b (x ∷ filter p xs) (filter p xs) ≡ []
+        → p x || list_any p xs ≡ false
     go rec true e k = cc
     go rec false e k = rw e (rec k)
 
-has_hit : (test : LitmusTest) (kinds : List AtomKind) (n : ℕ) (run : List Event) → 1 ≤ n → is_hit test kinds run (zeros test) ≡ true → hits_of test kinds n run ≡ [] → ⊥
+has_hit : (test : LitmusTest) (kinds : List AtomKind) (n : ℕ) (run : List Event) → 1 ≤ n
+    → is_hit test kinds run (zeros test) ≡ true → hits_of test kinds n run ≡ [] → ⊥
 has_hit test kinds n run l hit none =
     let t = length test.bodies in
     let p = is_hit test kinds run in
@@ -261,13 +341,19 @@ has_hit test kinds n run l hit none =
     let number = frame_number n (zeros test) in
     let below : number < n ^ length (zeros test) = number_below n (zeros test) each in
     let few : n ^ length (zeros test) ≡ n ^ t = ap (λ z. n ^ z) long in
-    let back : frame_of n t number ≡ zeros test = ap (λ z. frame_of n z number) (sym long) ∙ frame_back n (zeros test) each in
-    let any : list_any p (frames_of n t) ≡ true = any_map p (frame_of n t) (range_with_len 0 (n ^ t)) ∙ any_range (λ d. p (frame_of n t d)) 0 (n ^ t) number (omega arith) (omega arith) (ap p back ∙ hit) in
+    let back : frame_of n t number ≡ zeros test = ap (λ z. frame_of n z number) (sym long)
+    ∙ frame_back n (zeros test) each in
+    let any : list_any p (frames_of n t) ≡ true = any_map p (frame_of n t) (range_with_len 0 (n ^ t))
+    ∙ any_range (λ d. p (frame_of n t d)) 0 (n ^ t) number (omega arith) (omega arith) (ap p back ∙ hit) in
     true≢false (sym any ∙ filter_none p (frames_of n t) none)
 
 pub each_length_has_a_hit_lem : EachLengthHasAHit
 each_length_has_a_hit_lem checked c run zero h there s l = absurd (omega arith)
 each_length_has_a_hit_lem checked c run (suc m) h there s l =
     let g = longer_of checked.test m run s.0 in
-    let hold = longer_holds checked c m run g.events h s g.is_run in
-    (run ++ g.events, g.is_run, has_hit checked.test checked.kinds (suc m) (run ++ g.events) l (holds_is_hit checked c (run ++ g.events) there hold))
+    let hold = longer_holds checked c m run g.events h s g.is_run in (
+      run ++ g.events,
+      g.is_run,
+      has_hit checked.test checked.kinds (suc m) (run ++ g.events) l
+          (holds_is_hit checked c (run ++ g.events) there hold),
+    )

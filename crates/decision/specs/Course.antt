@@ -4,12 +4,12 @@ use Rattle.std.specs.List.{list_any}
 use Rattle.x86_subset.specs.Instr.{is_reading}
 use Rattle.x86_subset.specs.Test.{LitmusTest, body_of}
 use Rattle.x86_subset.specs.declared.instr.Instr.{Instr}
-use Rattle.seq_conv.specs.Event.{Event, Kind, Push, Drain, Read, Fenced, Exchanged, site_of}
-use Rattle.seq_conv.specs.Machine.{after_all, initial, updated}
+use Rattle.tso_machine.specs.Event.{Event, Kind, Push, Drain, Read, Fenced, Exchanged, site_of}
+use Rattle.tso_machine.specs.Machine.{after_all, initial, updated}
 use Rattle.seq_conv.specs.Numbers.{AreOf, Table}
-use Rattle.seq_conv.specs.Part.{Slot}
+use Rattle.tso_machine.specs.Part.{Slot}
 use Rattle.seq_conv.specs.Sequence.{action_at}
-use Rattle.seq_conv.specs.Source.{is_memory_kind}
+use Rattle.tso_machine.specs.Source.{is_memory_kind}
 use Rattle.profile_check.specs.Profile.{CheckedTest, IsChecked}
 use Rattle.profile_check.specs.declared.kind.AtomKind.{AtomKind}
 use Rattle.run_judge.specs.Judgement.{event_of}
@@ -49,7 +49,7 @@ abbrev pub IsCourse : CheckedTest → ℕ → Course → Type 0
 IsCourse checked c course =
     IsKept checked.test (kinds_in checked c) course.threads.items course.memory (map event_of course.events.items)
 
--- a thread's mark behind an event of this kind, at this place
+-- a thread's mark after an event of this kind, at this place
 abbrev pub mark_after : Kind → ℕ → Mark → Mark
 mark_after Push place m = record { done = m.done + 1; drained = m.drained }
 mark_after Drain place m = record { done = m.done; drained = place + 1 }
@@ -130,7 +130,8 @@ is_early action asked marks n =
 abbrev pub IsDrainHeld : LitmusTest → List Asked → (ℕ → Mark) → ℕ → Type 0
 IsDrainHeld test asked marks t =
     StoresNone test t (marks t).drained (marks t).done
-    ⊎ ((place : ℕ) × IsOldest test t (marks t).drained (marks t).done place × (list_any (writes_early marks (record { thread = t; place = place })) asked ≡ true))
+    ⊎ ((place : ℕ) × IsOldest test t (marks t).drained (marks t).done place
+    × (list_any (writes_early marks (record { thread = t; place = place })) asked ≡ true))
 
 -- a thread's next action waits for its own writes, or would be too early
 pub record IsWaiting (test : LitmusTest) (asked : List Asked) (marks : ℕ → Mark) (t : ℕ) : Type 0 where

@@ -2,10 +2,10 @@
 use Rattle.std.specs.Prelude.{◌≡◌, ℕ, ◌<◌, ◌≤◌, true, false, not, Contains, Some, List, length, filter, slice_get, take}
 use Rattle.std.specs.List.{AllZip, AllByRecursion as Each}
 use Rattle.x86_subset.specs.Test.{LitmusTest}
-use Rattle.seq_conv.specs.Event.{Event, is_drain}
-use Rattle.seq_conv.specs.Log.{value_read}
-use Rattle.seq_conv.specs.Machine.{Steps, after_all, initial}
-use Rattle.seq_conv.specs.Part.{Fills, Slot, part_of}
+use Rattle.tso_machine.specs.Event.{Event, is_drain}
+use Rattle.tso_machine.specs.Log.{value_read}
+use Rattle.tso_machine.specs.Machine.{Steps, after_all, initial}
+use Rattle.tso_machine.specs.Part.{Fills, Slot, part_of}
 use Rattle.seq_conv.specs.Sequence.{rank_of}
 use Rattle.profile_check.specs.declared.kind.AtomKind.{AtomKind}
 use Rattle.profile_check.specs.declared.kind.AtomKind.TheVariants.{Rf, Fr, Exact}
@@ -45,10 +45,12 @@ WaitsStores test t m =
 pub record Stage (test : LitmusTest) (kinds : List AtomKind) (marks : ℕ → Mark) (events : List Event) : Type 0 where
   pub steps : Steps test initial events
   pub stands : Stands test 1 (after_all test initial events) marks
-  pub performed : (t : ℕ) → t < length test.bodies → AllZip (Fills t) (take (marks t).done (loop_of test 1 t)) (deeds t events)
+  pub performed : (t : ℕ) → t < length test.bodies
+      → AllZip (Fills t) (take (marks t).done (loop_of test 1 t)) (deeds t events)
   pub threads : Each (λ e. e.thread < length test.bodies) events
   pub stores : (t : ℕ) → WaitsStores test t (marks t)
   -- as long as the reader has not read, the store that it reads before is not in memory
   pub follows : (kind : AtomKind) → Contains kinds kind → (q : Node) → (asked_of test kind).follower ≡ Some q
-      → (marks (asked_of test kind).reader.thread).done ≤ (asked_of test kind).reader.place → (marks q.thread).drained ≤ q.place
+      → (marks (asked_of test kind).reader.thread).done ≤ (asked_of test kind).reader.place
+      → (marks q.thread).drained ≤ q.place
   pub reads : Each (IsWanted test kinds) events

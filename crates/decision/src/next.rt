@@ -43,7 +43,8 @@ fn drain_of(
     requires case { IsCase checked.now sequences.now conjunction asked.now }
     requires course { IsCourse checked.now conjunction course.now }
     requires thread { t < length checked.now.test.bodies }
-    ensures { MatchOption result (IsDrainHeld checked.now.test asked.now (marks_of course.now.threads.items) t) (λ e. IsNextIn checked.now conjunction course.now (event_of e)) }
+    ensures { MatchOption result (IsDrainHeld checked.now.test asked.now (marks_of course.now.threads.items) t)
+        (λ e. IsNextIn checked.now conjunction course.now (event_of e)) }
 {
     let test = checked.test();
     match oldest(test, t, progress_of(course, t)) {
@@ -76,7 +77,13 @@ fn deed_kind(
     requires thread { n.thread < length checked.now.test.bodies }
     requires here { n.place ≡ (marks_of course.now.threads.items n.thread).done }
     requires place { n.place < length (body_of checked.now.test n.thread) }
-    ensures { MatchOption result (IsWaiting checked.now.test asked.now (marks_of course.now.threads.items) n.thread) (λ k. IsNextIn checked.now conjunction course.now (record { thread = n.thread; iteration = 0; place = n.place; kind = kind_of_run k })) }
+    ensures { MatchOption result (IsWaiting checked.now.test asked.now (marks_of course.now.threads.items) n.thread)
+        (λ k. IsNextIn checked.now conjunction course.now (record {
+          thread = n.thread;
+          iteration = 0;
+          place = n.place;
+          kind = kind_of_run k;
+        })) }
 {
     let test = checked.test();
     let action = action_of(test, n);
@@ -115,7 +122,8 @@ fn deed_of(
     requires case { IsCase checked.now sequences.now conjunction asked.now }
     requires course { IsCourse checked.now conjunction course.now }
     requires thread { t < length checked.now.test.bodies }
-    ensures { MatchOption result (IsDeedHeld checked.now.test asked.now (marks_of course.now.threads.items) t) (λ e. IsNextIn checked.now conjunction course.now (event_of e)) }
+    ensures { MatchOption result (IsDeedHeld checked.now.test asked.now (marks_of course.now.threads.items) t)
+        (λ e. IsNextIn checked.now conjunction course.now (event_of e)) }
 {
     let place = progress_of(course, t).done;
     if place as usize == checked.test().body(t as usize).len() {
@@ -149,7 +157,9 @@ pub fn next_event(
 ) -> Option<RunEvent>
     requires case { IsCase checked.now sequences.now conjunction asked.now }
     requires course { IsCourse checked.now conjunction course.now }
-    ensures { MatchOption result ((t : ℕ) → t < length checked.now.test.bodies → IsHeld checked.now.test asked.now (marks_of course.now.threads.items) t) (λ e. IsNextIn checked.now conjunction course.now (event_of e)) }
+    ensures { MatchOption result ((t : ℕ) → t < length checked.now.test.bodies
+        → IsHeld checked.now.test asked.now (marks_of course.now.threads.items) t)
+        (λ e. IsNextIn checked.now conjunction course.now (event_of e)) }
 {
     for t in 0..checked.test().threads() as u32 {
         if let Some(event) = drain_of(checked, sequences, conjunction, asked, course, t) {

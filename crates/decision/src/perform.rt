@@ -1,7 +1,7 @@
 //! One event more.
 ghost use Rattle.std.specs.Prelude.{◌≡◌, ◌<◌, ◌^◌, OnOk, length};
 ghost use Rattle.seq_conv.specs.Numbers.{AreOf};
-ghost use Rattle.seq_conv.specs.Source.{is_memory_kind};
+ghost use Rattle.tso_machine.specs.Source.{is_memory_kind};
 ghost use Rattle.run_judge.specs.Judgement.{event_of, kind_of_run};
 ghost use Rattle.decision.specs.Course.{IsCourse, IsNextIn, mark_after, mark_of, marks_of, total};
 
@@ -13,7 +13,7 @@ use run_judge::{RunEvent, RunKind};
 use seq_conv::Sequences;
 use verdict::Node;
 
-/// How far a thread has come behind an event.
+/// How far a thread has come after an event.
 fn progress_after(own: Progress, kind: RunKind, place: u32) -> Progress
     requires done { own.done < 2 ^ 31 }
     requires place { place < 2 ^ 31 }
@@ -57,7 +57,9 @@ pub fn perform(
     requires course { IsCourse checked.now conjunction course.old }
     requires next { IsNextIn checked.now conjunction course.old (event_of event) }
     ensures course { OnOk result (IsCourse checked.now conjunction course.new) }
-    ensures less { OnOk result (total checked.now.test (marks_of course.new.threads.items) (length checked.now.test.bodies) < total checked.now.test (marks_of course.old.threads.items) (length checked.now.test.bodies)) }
+    ensures less { OnOk result (total checked.now.test (marks_of course.new.threads.items)
+        (length checked.now.test.bodies) < total checked.now.test (marks_of course.old.threads.items)
+        (length checked.now.test.bodies)) }
 {
     let test = checked.test();
     let (t, place) = (event.thread as usize, event.place as usize);

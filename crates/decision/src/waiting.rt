@@ -1,7 +1,7 @@
 //! What waits in a thread's store buffer.
 ghost use Rattle.std.specs.Prelude.{◌≡◌, ◌<◌, ◌≤◌, length, map, slice_get, MatchOption, Some};
 ghost use Rattle.x86_subset.specs.Test.{body_of};
-ghost use Rattle.seq_conv.specs.Machine.{newest};
+ghost use Rattle.tso_machine.specs.Machine.{newest};
 ghost use Rattle.seq_conv.specs.Numbers.{AreOf};
 ghost use Rattle.run_witness.specs.Marks.{loop_of, waiting};
 ghost use Rattle.run_witness.specs.Stage.{slot_write};
@@ -26,7 +26,8 @@ pub fn action_of(test: &Test, n: Node) -> Instr
 pub fn oldest(test: &Test, t: u32, own: Progress) -> Option<u32>
     requires thread { t < length test.now.bodies }
     requires within { own.done ≤ length (body_of test.now t) }
-    ensures { MatchOption result (StoresNone test.now t own.drained own.done) (IsOldest test.now t own.drained own.done) }
+    ensures { MatchOption result (StoresNone test.now t own.drained own.done)
+        (IsOldest test.now t own.drained own.done) }
 {
     for place in own.drained..own.done {
         if is_storing(action_of(test, Node { thread: t, place })) {

@@ -29,7 +29,8 @@ pub record KindsFrom (test : LitmusTest) (t : ℕ) (os : List Bool) : Type 0 whe
   pub kinds : List AtomKind
   pub are : AllZip (λ atom kind. kind_of test atom ≡ Ok kind) (atoms_by t os) kinds
 
-kind_then : (test : LitmusTest) (t : ℕ) (o : Bool) (os : List Bool) (r : Result AtomKind ProfileKind) → kind_of test (atom_by t o) ≡ r → is_ok r ≡ true
+kind_then : (test : LitmusTest) (t : ℕ) (o : Bool) (os : List Bool) (r : Result AtomKind ProfileKind)
+    → kind_of test (atom_by t o) ≡ r → is_ok r ≡ true
     → KindsFrom test (t + 1) os → KindsFrom test t (o ∷ os)
 kind_then test t o os (Ok kind) is ok more = record { kinds = kind ∷ more.kinds; are = (is, more.are) }
 kind_then test t o os (Err e) is ok more = cc
@@ -38,11 +39,14 @@ pub kinds_from : (test : LitmusTest) (t : ℕ) (os : List Bool) → all_ok test 
 kinds_from test t [] h = record { kinds = []; are = tt }
 kinds_from test t (o ∷ os) h =
     let parts = and_parts (both_ok test t) (all_ok test (t + 1) os) h in
-    kind_then test t o os (kind_of test (atom_by t o)) refl (ok_at test t o parts.0) (kinds_from test (t + 1) os parts.1)
+    kind_then test t o os (kind_of test (atom_by t o)) refl (ok_at test t o parts.0)
+    (kinds_from test (t + 1) os parts.1)
 
 -- atoms that have kinds are inside the profile
-pub all_inside : (test : LitmusTest) (n : ℕ) (atoms : List Atom) (kinds : List AtomKind) → AllZip (λ atom kind. kind_of test atom ≡ Ok kind) atoms kinds → profile_from test n atoms ≡ inside
+pub all_inside : (test : LitmusTest) (n : ℕ) (atoms : List Atom) (kinds : List AtomKind)
+    → AllZip (λ atom kind. kind_of test atom ≡ Ok kind) atoms kinds → profile_from test n atoms ≡ inside
 all_inside test n [] [] are = refl
 all_inside test n [] (kind ∷ kinds) are = absurd are
 all_inside test n (atom ∷ atoms) [] are = absurd are
-all_inside test n (atom ∷ atoms) (kind ∷ kinds) are = ap (λ r. profile_by r n (profile_from test (n + 1) atoms)) are.0 ∙ all_inside test (n + 1) atoms kinds are.1
+all_inside test n (atom ∷ atoms) (kind ∷ kinds) are =
+    ap (λ r. profile_by r n (profile_from test (n + 1) atoms)) are.0 ∙ all_inside test (n + 1) atoms kinds are.1

@@ -1,5 +1,5 @@
--- The lines of a demo text as sections of a litmus text. What a line is read as is computed at each list of the bits that it looks
--- at; the place in the text, what stands behind, and what the lines before have made are left open.
+-- The lines of a demo text as sections of a litmus text. What a line is read as is computed at each list of the bits
+-- that it looks at; the place in the text, what stands after, and what the lines before have made are left open.
 use Rattle.std.proofs.Common.{◌≡◌, ◌∙◌, ℕ, ◌+◌, ◌%◌, ◌++◌, Bool, false, List, [], ◌∷◌, length, refl, ap, ap₂, Result, Ok}
 use Rattle.std.specs.Prelude.{codes, decimal, unwrap_or, if◌then◌else◌}
 use Rattle.std.specs.Fmt.{digits}
@@ -7,12 +7,12 @@ use Rattle.x86_subset.specs.declared.instr.Reg.TheVariants.{Eax}
 use Rattle.x86_subset.specs.declared.test.Atom.{Atom}
 use Rattle.x86_subset.specs.declared.test.Quantifier.TheVariants.{Exists}
 use Rattle.x86_subset.specs.Test.{Code, LitmusTest}
-use Rattle.x86_subset.specs.Token.{Spot, Lexeme, after_bytes, is_blank, is_digit, is_letter, is_head, is_tail, sign, is_pair, is_single, close_end, pair_cut, cut_at, lex}
+use Rattle.x86_subset.specs.Token.{Spot, Lexeme, after_bytes, is_blank, is_head, is_tail, sign, is_pair, is_single, close_end, pair_cut, cut_at, lex}
 use Rattle.x86_subset.specs.Cell.{Form, Blank, Fence, StoreNumber, Load, Threads, empty_code, code_after, parse}
-use Rattle.x86_subset.specs.Form.{capital, register_of, fill, fit, meaning}
+use Rattle.x86_subset.specs.Form.{register_of, fill, fit, meaning}
 use Rattle.litmus_reader.specs.Answer.{Refusal, ◌>>=◌}
 use Rattle.litmus_reader.specs.Initial.{judge, items}
-use Rattle.litmus_reader.specs.Rows.{no_code, body_of, threads_after, columns_at, cell_at, cells_at, row_of, rows_at}
+use Rattle.litmus_reader.specs.Rows.{no_code, column_code, threads_after, columns_at, cell_at, cells_at, row_of, rows_at}
 use Rattle.litmus_reader.specs.Condition.{Joined, behind_close, section_at, quantifier_at}
 use Rattle.litmus_reader.specs.Expression.{AtTerm, outermost, in_atom, at_term, behind_term, expression_at}
 use Rattle.litmus_reader.specs.Reading.{test_of, tokens_at}
@@ -24,7 +24,9 @@ use Rattle.demo_text.proofs.Table.{every, same_at}
 use Rattle.demo_text.proofs.Lines.{plains, bits_of, line-plain}
 
 reading : ℕ
-unfolding is_blank is_digit is_letter is_head is_tail sign is_pair is_single close_end pair_cut cut_at lex capital register_of fill fit meaning parse judge items columns_at cell_at cells_at row_of rows_at behind_close section_at quantifier_at in_atom at_term behind_term expression_at tokens_at digits
+unfolding is_blank is_head is_tail sign is_pair is_single close_end pair_cut cut_at lex register_of fill fit meaning
+    parse judge items columns_at cell_at cells_at row_of rows_at behind_close section_at quantifier_at in_atom at_term
+    behind_term expression_at tokens_at digits
 reading = 0
 
 -- ---- what the lines make
@@ -41,9 +43,9 @@ form_by Last t u b = if b then StoreNumber (location t) 1 else Load Eax (locatio
 form_by Condition t u b = Blank
 
 abbrev acted : ℕ → Threads → Form → Threads
-acted t s form = threads_after t form s (unwrap_or (code_after s.locations form (body_of t s)) empty_code)
+acted t s form = threads_after t form s (unwrap_or (code_after s.locations form (column_code t s)) empty_code)
 
--- the threads behind a row, of which the cells from t on are left
+-- the threads after a row, of which the cells from t on are left
 abbrev pub threads_by : Line → ℕ → ℕ → List Bool → Threads → Threads
 threads_by line n t [] s = s
 threads_by line n t (b ∷ bs) s = threads_by line n (t + 1) bs (acted t s (form_by line t ((t + 1) % n) b))
@@ -70,11 +72,13 @@ test_for name ds = test_by name (length ds) (bits_of First ds) (bits_of Middle d
 
 -- ---- the sections
 
--- all behind the first brace
+-- all after the first brace
 abbrev pub rest_text : List Draw → List ℕ
-rest_text ds = codes " }\n" ++ (line_text Columns ds ++ (line_text First ds ++ (line_text Middle ds ++ (line_text Last ds ++ line_text Condition ds))))
+rest_text ds =
+    codes " }\n" ++ (line_text Columns ds ++ (line_text First ds
+    ++ (line_text Middle ds ++ (line_text Last ds ++ line_text Condition ds))))
 
--- what stands behind the rows
+-- what stands after the rows
 abbrev behind : ℕ → List ℕ → Result (Threads × List Lexeme) Refusal → Result LitmusTest Refusal
 behind last name r = do
   s ← r
@@ -84,7 +88,9 @@ behind last name r = do
   Ok (test_of name s.0 q.0 j)
 
 behind_brace : (last : ℕ) (name : List ℕ) (at : Spot) (rest : List ℕ)
-    → tokens_at last name (lex 0 at (codes " }\n" ++ rest)) ≡ (columns_at last [] (lex 0 (after_bytes at (codes " }\n")) rest) >>= λ c. behind last name (rows_at last c.0 [] c.1))
+    → tokens_at last name (lex 0 at (codes " }\n" ++ rest))
+    ≡ (columns_at last [] (lex 0 (after_bytes at (codes " }\n")) rest) >>= λ c. behind last name
+    (rows_at last c.0 [] c.1))
 unfolding reading
 behind_brace last name at rest = refl
 
@@ -92,27 +98,34 @@ abbrev before_row : Line → ℕ → Threads → Spot → List ℕ → List Bool
 before_row line last s at rest bs = rows_at last s [] (lex 0 at (line_text line (plains bs) ++ rest))
 
 abbrev behind_row : Line → ℕ → ℕ → Threads → Spot → List ℕ → List Bool → Result (Threads × List Lexeme) Refusal
-behind_row line n last s at rest bs = rows_at last (threads_by line n 0 bs s) [] (lex 0 (after_bytes at (line_text line (plains bs))) rest)
+behind_row line n last s at rest bs =
+    rows_at last (threads_by line n 0 bs s) [] (lex 0 (after_bytes at (line_text line (plains bs))) rest)
 
 -- a row is read from these threads
 abbrev RowReads : Line → ℕ → Threads → List Bool → Type 0
-RowReads line n s bs = (last : ℕ) (at : Spot) (rest : List ℕ) → every bs (before_row line last s at rest) ≡ every bs (behind_row line n last s at rest)
+RowReads line n s bs =
+    (last : ℕ) (at : Spot) (rest : List ℕ) → every bs (before_row line last s at rest)
+    ≡ every bs (behind_row line n last s at rest)
 
 -- the columns are read
 abbrev ColumnsRead : List Draw → Type 0
 ColumnsRead ds = (last : ℕ) (at : Spot) (rest : List ℕ)
-    → columns_at last [] (lex 0 at (line_text Columns ds ++ rest)) ≡ Ok (no_code (length ds), lex 0 (after_bytes at (line_text Columns ds)) rest)
+    → columns_at last [] (lex 0 at (line_text Columns ds ++ rest))
+    ≡ Ok (no_code (length ds), lex 0 (after_bytes at (line_text Columns ds)) rest)
 
 -- the condition is read
 abbrev ConditionReads : List Bool → Type 0
 ConditionReads bs = (last : ℕ) (name : List ℕ) (s : Threads) (at : Spot)
-    → every bs (λ bs. behind last name (rows_at last s [] (lex 0 at (line_text Condition (plains bs))))) ≡ every bs (λ bs. Ok (test_of name s Exists (joined_by bs)))
+    → every bs (λ bs. behind last name (rows_at last s [] (lex 0 at (line_text Condition (plains bs)))))
+    ≡ every bs (λ bs. Ok (test_of name s Exists (joined_by bs)))
 
 -- the sections, one after another
 module _ (ds : List Draw) (columns : ColumnsRead ds)
     (first : RowReads First (length ds) (no_code (length ds)) (bits_of First ds))
-    (middle : RowReads Middle (length ds) (threads_by First (length ds) 0 (bits_of First ds) (no_code (length ds))) (bits_of Middle ds))
-    (last_row : RowReads Last (length ds) (threads_by Middle (length ds) 0 (bits_of Middle ds) (threads_by First (length ds) 0 (bits_of First ds) (no_code (length ds)))) (bits_of Last ds))
+    (middle : RowReads Middle (length ds) (threads_by First (length ds) 0 (bits_of First ds) (no_code (length ds)))
+    (bits_of Middle ds))
+    (last_row : RowReads Last (length ds) (threads_by Middle (length ds) 0 (bits_of Middle ds)
+    (threads_by First (length ds) 0 (bits_of First ds) (no_code (length ds)))) (bits_of Last ds))
     (condition : ConditionReads (bits_of Condition ds)) where
   n : ℕ
   n = length ds
@@ -126,12 +139,17 @@ module _ (ds : List Draw) (columns : ColumnsRead ds)
   os : List Bool
   os = bits_of Condition ds
 
-  row_read : (line : Line) (s : Threads) (bs : List Bool) → RowReads line (length ds) s bs → (last : ℕ) (at : Spot) (rest : List ℕ)
+  row_read : (line : Line) (s : Threads) (bs : List Bool) → RowReads line (length ds) s bs
+      → (last : ℕ) (at : Spot) (rest : List ℕ)
       → before_row line last s at rest bs ≡ behind_row line (length ds) last s at rest bs
-  row_read line s bs reads last at rest = same_at bs (before_row line last s at rest) (behind_row line (length ds) last s at rest) (reads last at rest)
+  row_read line s bs reads last at rest =
+      same_at bs (before_row line last s at rest) (behind_row line (length ds) last s at rest) (reads last at rest)
 
   rows_read : (last : ℕ) (name : List ℕ) (at : Spot)
-      → behind last name (rows_at last (no_code (length ds)) [] (lex 0 at (line_text First (plains (bits_of First ds)) ++ (line_text Middle (plains (bits_of Middle ds)) ++ (line_text Last (plains (bits_of Last ds)) ++ line_text Condition (plains (bits_of Condition ds)))))))
+      → behind last name (rows_at last (no_code (length ds)) [] (lex 0
+      at (line_text First (plains (bits_of First ds))
+      ++ (line_text Middle (plains (bits_of Middle ds))
+      ++ (line_text Last (plains (bits_of Last ds)) ++ line_text Condition (plains (bits_of Condition ds)))))))
       ≡ Ok (test_for name ds)
   rows_read last name at =
       ap (behind last name) (
@@ -140,12 +158,15 @@ module _ (ds : List Draw) (columns : ColumnsRead ds)
       ∙ row_read Last _ (bits_of Last ds) last_row last _ _)
       ∙ same_at (bits_of Condition ds) _ _ (condition last name _ _)
 
-  pub all_read : (last : ℕ) (name : List ℕ) (at : Spot) → tokens_at last name (lex 0 at (rest_text ds)) ≡ Ok (test_for name ds)
+  pub all_read : (last : ℕ) (name : List ℕ) (at : Spot)
+      → tokens_at last name (lex 0 at (rest_text ds)) ≡ Ok (test_for name ds)
   all_read last name at =
       behind_brace last name at _
       ∙ ap (λ c. c >>= λ c. behind last name (rows_at last c.0 [] c.1)) (columns last (after_bytes at (codes " }\n")) _)
-      ∙ ap (λ text. behind last name (rows_at last (no_code (length ds)) [] (lex 0 (after_bytes (after_bytes at (codes " }\n")) (line_text Columns ds)) text)))
-      (ap₂ (λ a b. a ++ b) (line-plain First ds) (ap₂ (λ a b. a ++ b) (line-plain Middle ds) (ap₂ (λ a b. a ++ b) (line-plain Last ds) (line-plain Condition ds))))
+      ∙ ap (λ text. behind last name (rows_at last (no_code (length ds)) []
+      (lex 0 (after_bytes (after_bytes at (codes " }\n")) (line_text Columns ds)) text)))
+      (ap₂ (λ a b. a ++ b) (line-plain First ds) (ap₂ (λ a b. a ++ b) (line-plain Middle ds)
+      (ap₂ (λ a b. a ++ b) (line-plain Last ds) (line-plain Condition ds))))
       ∙ rows_read last name (after_bytes (after_bytes at (codes " }\n")) (line_text Columns ds))
 
 -- ---- two, three and four threads
@@ -203,11 +224,13 @@ condition_3 : (p q r : Bool) → ConditionReads (p ∷ q ∷ r ∷ [])
 unfolding reading
 condition_3 p q r last name s at = refl
 
-first_4 : (xs : List (List ℕ)) (a b c d : Code) (p q r w : Bool) → RowReads First 4 (four xs a b c d) (p ∷ q ∷ r ∷ w ∷ [])
+first_4 : (xs : List (List ℕ)) (a b c d : Code) (p q r w : Bool)
+    → RowReads First 4 (four xs a b c d) (p ∷ q ∷ r ∷ w ∷ [])
 unfolding reading
 first_4 xs a b c d p q r w last at rest = refl
 
-middle_4 : (xs : List (List ℕ)) (a b c d : Code) (p q r w : Bool) → RowReads Middle 4 (four xs a b c d) (p ∷ q ∷ r ∷ w ∷ [])
+middle_4 : (xs : List (List ℕ)) (a b c d : Code) (p q r w : Bool)
+    → RowReads Middle 4 (four xs a b c d) (p ∷ q ∷ r ∷ w ∷ [])
 unfolding reading
 middle_4 xs a b c d p q r w last at rest = refl
 
@@ -219,32 +242,42 @@ condition_4 : (p q r w : Bool) → ConditionReads (p ∷ q ∷ r ∷ w ∷ [])
 unfolding reading
 condition_4 p q r w last name s at = refl
 
-pub reads_2 : (d e : Draw) (last : ℕ) (name : List ℕ) (at : Spot) → tokens_at last name (lex 0 at (rest_text (d ∷ e ∷ []))) ≡ Ok (test_for name (d ∷ e ∷ []))
+pub reads_2 : (d e : Draw) (last : ℕ) (name : List ℕ) (at : Spot)
+    → tokens_at last name (lex 0 at (rest_text (d ∷ e ∷ []))) ≡ Ok (test_for name (d ∷ e ∷ []))
 reads_2 d e =
     let one : Threads = (threads_by First 2 0 (d.loads_first ∷ e.loads_first ∷ []) (no_code 2)) in
-    let both : Threads = (threads_by Middle 2 0 (d.fenced ∷ e.fenced ∷ []) (threads_by First 2 0 (d.loads_first ∷ e.loads_first ∷ []) (no_code 2))) in
+    let both : Threads = (threads_by Middle 2 0 (d.fenced ∷ e.fenced ∷ [])
+    (threads_by First 2 0 (d.loads_first ∷ e.loads_first ∷ []) (no_code 2))) in
     all_read (d ∷ e ∷ []) (columns_2 d e)
     (first_2 [] empty_code empty_code d.loads_first e.loads_first)
-    (middle_2 one.locations (body_of 0 one) (body_of 1 one) d.fenced e.fenced)
-    (last_2 both.locations (body_of 0 both) (body_of 1 both) d.loads_first e.loads_first)
+    (middle_2 one.locations (column_code 0 one) (column_code 1 one) d.fenced e.fenced)
+    (last_2 both.locations (column_code 0 both) (column_code 1 both) d.loads_first e.loads_first)
     (condition_2 d.wants_one e.wants_one)
 
-pub reads_3 : (d e f : Draw) (last : ℕ) (name : List ℕ) (at : Spot) → tokens_at last name (lex 0 at (rest_text (d ∷ e ∷ f ∷ []))) ≡ Ok (test_for name (d ∷ e ∷ f ∷ []))
+pub reads_3 : (d e f : Draw) (last : ℕ) (name : List ℕ) (at : Spot)
+    → tokens_at last name (lex 0 at (rest_text (d ∷ e ∷ f ∷ []))) ≡ Ok (test_for name (d ∷ e ∷ f ∷ []))
 reads_3 d e f =
     let one : Threads = (threads_by First 3 0 (d.loads_first ∷ e.loads_first ∷ f.loads_first ∷ []) (no_code 3)) in
-    let both : Threads = (threads_by Middle 3 0 (d.fenced ∷ e.fenced ∷ f.fenced ∷ []) (threads_by First 3 0 (d.loads_first ∷ e.loads_first ∷ f.loads_first ∷ []) (no_code 3))) in
+    let both : Threads = (threads_by Middle 3 0 (d.fenced ∷ e.fenced ∷ f.fenced ∷ [])
+    (threads_by First 3 0 (d.loads_first ∷ e.loads_first ∷ f.loads_first ∷ []) (no_code 3))) in
     all_read (d ∷ e ∷ f ∷ []) (columns_3 d e f)
     (first_3 [] empty_code empty_code empty_code d.loads_first e.loads_first f.loads_first)
-    (middle_3 one.locations (body_of 0 one) (body_of 1 one) (body_of 2 one) d.fenced e.fenced f.fenced)
-    (last_3 both.locations (body_of 0 both) (body_of 1 both) (body_of 2 both) d.loads_first e.loads_first f.loads_first)
+    (middle_3 one.locations (column_code 0 one) (column_code 1 one) (column_code 2 one) d.fenced e.fenced f.fenced)
+    (last_3 both.locations (column_code 0 both) (column_code 1 both)
+    (column_code 2 both) d.loads_first e.loads_first f.loads_first)
     (condition_3 d.wants_one e.wants_one f.wants_one)
 
-pub reads_4 : (d e f g : Draw) (last : ℕ) (name : List ℕ) (at : Spot) → tokens_at last name (lex 0 at (rest_text (d ∷ e ∷ f ∷ g ∷ []))) ≡ Ok (test_for name (d ∷ e ∷ f ∷ g ∷ []))
+pub reads_4 : (d e f g : Draw) (last : ℕ) (name : List ℕ) (at : Spot)
+    → tokens_at last name (lex 0 at (rest_text (d ∷ e ∷ f ∷ g ∷ []))) ≡ Ok (test_for name (d ∷ e ∷ f ∷ g ∷ []))
 reads_4 d e f g =
-    let one : Threads = (threads_by First 4 0 (d.loads_first ∷ e.loads_first ∷ f.loads_first ∷ g.loads_first ∷ []) (no_code 4)) in
-    let both : Threads = (threads_by Middle 4 0 (d.fenced ∷ e.fenced ∷ f.fenced ∷ g.fenced ∷ []) (threads_by First 4 0 (d.loads_first ∷ e.loads_first ∷ f.loads_first ∷ g.loads_first ∷ []) (no_code 4))) in
+    let one : Threads = (threads_by First 4 0 (d.loads_first ∷ e.loads_first ∷ f.loads_first ∷ g.loads_first ∷ [])
+    (no_code 4)) in
+    let both : Threads = (threads_by Middle 4 0 (d.fenced ∷ e.fenced ∷ f.fenced ∷ g.fenced ∷ [])
+    (threads_by First 4 0 (d.loads_first ∷ e.loads_first ∷ f.loads_first ∷ g.loads_first ∷ []) (no_code 4))) in
     all_read (d ∷ e ∷ f ∷ g ∷ []) (columns_4 d e f g)
     (first_4 [] empty_code empty_code empty_code empty_code d.loads_first e.loads_first f.loads_first g.loads_first)
-    (middle_4 one.locations (body_of 0 one) (body_of 1 one) (body_of 2 one) (body_of 3 one) d.fenced e.fenced f.fenced g.fenced)
-    (last_4 both.locations (body_of 0 both) (body_of 1 both) (body_of 2 both) (body_of 3 both) d.loads_first e.loads_first f.loads_first g.loads_first)
+    (middle_4 one.locations (column_code 0 one) (column_code 1 one) (column_code 2 one)
+    (column_code 3 one) d.fenced e.fenced f.fenced g.fenced)
+    (last_4 both.locations (column_code 0 both) (column_code 1 both) (column_code 2 both)
+    (column_code 3 both) d.loads_first e.loads_first f.loads_first g.loads_first)
     (condition_4 d.wants_one e.wants_one f.wants_one g.wants_one)

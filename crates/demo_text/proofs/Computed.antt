@@ -1,4 +1,5 @@
--- The tests of demo texts: they pass no limit, each atom has a kind, and their texts are short. Computed at each list of the bits.
+-- The tests of demo texts: they pass no limit, each atom has a kind, and their texts are short. Computed at each list
+-- of the bits.
 use Rattle.std.proofs.Common.{◌≡◌, ℕ, ◌≤◌, ◌^◌, Bool, true, List, [], ◌∷◌, length, refl, sym, subst, arith, None, Ok}
 use Rattle.std.specs.Prelude.{nat_le}
 use Rattle.std.proofs.lemmas.Bool.{leb-true}
@@ -26,7 +27,8 @@ abbrev Within : ℕ → List Bool → List Bool → List Bool → Type 0
 Within n ls fs os = (name : List ℕ)
     → every ls (λ ls. every fs (λ fs. limit_of (test_by name n ls fs os))) ≡ every ls (λ ls. every fs (λ fs. None))
 
-pub within : (n : ℕ) (ls fs os : List Bool) → Within n ls fs os → (name : List ℕ) → limit_of (test_by name n ls fs os) ≡ None
+pub within : (n : ℕ) (ls fs os : List Bool) → Within n ls fs os → (name : List ℕ)
+    → limit_of (test_by name n ls fs os) ≡ None
 within n ls fs os all name =
     same_at fs (λ fs. limit_of (test_by name n ls fs os)) (λ fs. None)
     (same_at ls (λ ls. every fs (λ fs. limit_of (test_by name n ls fs os))) (λ ls. every fs (λ fs. None)) (all name))
@@ -37,7 +39,8 @@ abbrev HaveKinds : ℕ → List Bool → List Bool → List Bool → Type 0
 HaveKinds n ls fs os = (name : List ℕ)
     → every ls (λ ls. every fs (λ fs. all_ok (test_by name n ls fs os) 0 os)) ≡ every ls (λ ls. every fs (λ fs. true))
 
-pub have_kinds : (n : ℕ) (ls fs os : List Bool) → HaveKinds n ls fs os → (name : List ℕ) → all_ok (test_by name n ls fs os) 0 os ≡ true
+pub have_kinds : (n : ℕ) (ls fs os : List Bool) → HaveKinds n ls fs os → (name : List ℕ)
+    → all_ok (test_by name n ls fs os) 0 os ≡ true
 have_kinds n ls fs os all name =
     same_at fs (λ fs. all_ok (test_by name n ls fs os) 0 os) (λ fs. true)
     (same_at ls (λ ls. every fs (λ fs. all_ok (test_by name n ls fs os) 0 os)) (λ ls. every fs (λ fs. true)) (all name))
@@ -105,7 +108,8 @@ short_4 Condition p q r s = refl
 
 -- all that is computed of a demo's test
 pub record Holds (ds : List Draw) : Type 0 where
-  pub reads : (last : ℕ) (name : List ℕ) (at : Spot) → tokens_at last name (lex 0 at (rest_text ds)) ≡ Ok (test_for name ds)
+  pub reads : (last : ℕ) (name : List ℕ) (at : Spot)
+      → tokens_at last name (lex 0 at (rest_text ds)) ≡ Ok (test_for name ds)
   pub within : (name : List ℕ) → limit_of (test_for name ds) ≡ None
   pub kinds : (name : List ℕ) → all_ok (test_for name ds) 0 (bits_of Condition ds) ≡ true
   pub threads : (name : List ℕ) → length (test_for name ds).bodies ≡ length ds
@@ -118,8 +122,12 @@ short_line_2 d e line = short line (d ∷ e ∷ []) (short_2 line (bit_of line d
 pub holds_2 : (d e : Draw) → Holds (d ∷ e ∷ [])
 holds_2 d e = record {
   reads = reads_2 d e;
-  within = within 2 (d.loads_first ∷ e.loads_first ∷ []) (d.fenced ∷ e.fenced ∷ []) (d.wants_one ∷ e.wants_one ∷ []) (within_2 d.loads_first e.loads_first d.fenced e.fenced d.wants_one e.wants_one);
-  kinds = have_kinds 2 (d.loads_first ∷ e.loads_first ∷ []) (d.fenced ∷ e.fenced ∷ []) (d.wants_one ∷ e.wants_one ∷ []) (kinds_2 d.loads_first e.loads_first d.fenced e.fenced d.wants_one e.wants_one);
+  within =
+      within 2 (d.loads_first ∷ e.loads_first ∷ []) (d.fenced ∷ e.fenced ∷ []) (d.wants_one ∷ e.wants_one ∷ [])
+      (within_2 d.loads_first e.loads_first d.fenced e.fenced d.wants_one e.wants_one);
+  kinds =
+      have_kinds 2 (d.loads_first ∷ e.loads_first ∷ []) (d.fenced ∷ e.fenced ∷ []) (d.wants_one ∷ e.wants_one ∷ [])
+      (kinds_2 d.loads_first e.loads_first d.fenced e.fenced d.wants_one e.wants_one);
   threads = λ name. refl;
   frames = omega arith;
   short = short_line_2 d e;
@@ -131,21 +139,36 @@ short_line_3 d e f line = short line (d ∷ e ∷ f ∷ []) (short_3 line (bit_o
 pub holds_3 : (d e f : Draw) → Holds (d ∷ e ∷ f ∷ [])
 holds_3 d e f = record {
   reads = reads_3 d e f;
-  within = within 3 (d.loads_first ∷ e.loads_first ∷ f.loads_first ∷ []) (d.fenced ∷ e.fenced ∷ f.fenced ∷ []) (d.wants_one ∷ e.wants_one ∷ f.wants_one ∷ []) (within_3 d.loads_first e.loads_first f.loads_first d.fenced e.fenced f.fenced d.wants_one e.wants_one f.wants_one);
-  kinds = have_kinds 3 (d.loads_first ∷ e.loads_first ∷ f.loads_first ∷ []) (d.fenced ∷ e.fenced ∷ f.fenced ∷ []) (d.wants_one ∷ e.wants_one ∷ f.wants_one ∷ []) (kinds_3 d.loads_first e.loads_first f.loads_first d.fenced e.fenced f.fenced d.wants_one e.wants_one f.wants_one);
+  within =
+      within 3 (d.loads_first ∷ e.loads_first ∷ f.loads_first ∷ []) (d.fenced ∷ e.fenced ∷ f.fenced ∷ [])
+      (d.wants_one ∷ e.wants_one ∷ f.wants_one ∷ []) (within_3 d.loads_first e.loads_first f.loads_first d.fenced
+      e.fenced f.fenced d.wants_one e.wants_one f.wants_one);
+  kinds =
+      have_kinds 3 (d.loads_first ∷ e.loads_first ∷ f.loads_first ∷ []) (d.fenced ∷ e.fenced ∷ f.fenced ∷ [])
+      (d.wants_one ∷ e.wants_one ∷ f.wants_one ∷ []) (kinds_3 d.loads_first e.loads_first f.loads_first d.fenced
+      e.fenced f.fenced d.wants_one e.wants_one f.wants_one);
   threads = λ name. refl;
   frames = omega arith;
   short = short_line_3 d e f;
 }
 
 short_line_4 : (d e f g : Draw) (line : Line) → length (line_text line (d ∷ e ∷ f ∷ g ∷ [])) ≤ 200
-short_line_4 d e f g line = short line (d ∷ e ∷ f ∷ g ∷ []) (short_4 line (bit_of line d) (bit_of line e) (bit_of line f) (bit_of line g))
+short_line_4 d e f g line =
+    short line (d ∷ e ∷ f ∷ g ∷ []) (short_4 line (bit_of line d) (bit_of line e) (bit_of line f) (bit_of line g))
 
 pub holds_4 : (d e f g : Draw) → Holds (d ∷ e ∷ f ∷ g ∷ [])
 holds_4 d e f g = record {
   reads = reads_4 d e f g;
-  within = within 4 (d.loads_first ∷ e.loads_first ∷ f.loads_first ∷ g.loads_first ∷ []) (d.fenced ∷ e.fenced ∷ f.fenced ∷ g.fenced ∷ []) (d.wants_one ∷ e.wants_one ∷ f.wants_one ∷ g.wants_one ∷ []) (within_4 d.loads_first e.loads_first f.loads_first g.loads_first d.fenced e.fenced f.fenced g.fenced d.wants_one e.wants_one f.wants_one g.wants_one);
-  kinds = have_kinds 4 (d.loads_first ∷ e.loads_first ∷ f.loads_first ∷ g.loads_first ∷ []) (d.fenced ∷ e.fenced ∷ f.fenced ∷ g.fenced ∷ []) (d.wants_one ∷ e.wants_one ∷ f.wants_one ∷ g.wants_one ∷ []) (kinds_4 d.loads_first e.loads_first f.loads_first g.loads_first d.fenced e.fenced f.fenced g.fenced d.wants_one e.wants_one f.wants_one g.wants_one);
+  within =
+      within 4 (d.loads_first ∷ e.loads_first ∷ f.loads_first ∷ g.loads_first ∷ [])
+      (d.fenced ∷ e.fenced ∷ f.fenced ∷ g.fenced ∷ []) (d.wants_one ∷ e.wants_one ∷ f.wants_one ∷ g.wants_one ∷ [])
+      (within_4 d.loads_first e.loads_first f.loads_first g.loads_first d.fenced e.fenced f.fenced g.fenced
+      d.wants_one e.wants_one f.wants_one g.wants_one);
+  kinds =
+      have_kinds 4 (d.loads_first ∷ e.loads_first ∷ f.loads_first ∷ g.loads_first ∷ [])
+      (d.fenced ∷ e.fenced ∷ f.fenced ∷ g.fenced ∷ []) (d.wants_one ∷ e.wants_one ∷ f.wants_one ∷ g.wants_one ∷ [])
+      (kinds_4 d.loads_first e.loads_first f.loads_first g.loads_first d.fenced e.fenced f.fenced g.fenced
+      d.wants_one e.wants_one f.wants_one g.wants_one);
   threads = λ name. refl;
   frames = omega arith;
   short = short_line_4 d e f g;

@@ -31,9 +31,11 @@ cell-plain Middle t u d = refl
 cell-plain Last t u d = refl
 cell-plain Condition t u d = refl
 
-cells-plain : (line : Line) (n t : ℕ) (ds : List Draw) → cells_from line n t ds ≡ cells_from line n t (plains (bits_of line ds))
+cells-plain : (line : Line) (n t : ℕ) (ds : List Draw)
+    → cells_from line n t ds ≡ cells_from line n t (plains (bits_of line ds))
 cells-plain line n t [] = refl
-cells-plain line n t (d ∷ ds) = ap₂ (λ a b. before_cell line t ++ (a ++ b)) (cell-plain line t ((t + 1) % n) d) (cells-plain line n (t + 1) ds)
+cells-plain line n t (d ∷ ds) =
+    ap₂ (λ a b. before_cell line t ++ (a ++ b)) (cell-plain line t ((t + 1) % n) d) (cells-plain line n (t + 1) ds)
 
 length-plains : (line : Line) (ds : List Draw) → length ds ≡ length (plains (bits_of line ds))
 length-plains line ds = sym (length-map (bits_of line ds) plain ∙ length-map ds (bit_of line))
@@ -41,4 +43,5 @@ length-plains line ds = sym (length-map (bits_of line ds) plain ∙ length-map d
 pub line-plain : (line : Line) (ds : List Draw) → line_text line ds ≡ line_text line (plains (bits_of line ds))
 line-plain line ds =
     ap (λ cells. opening_of line ++ (cells ++ ending_of line)) (cells-plain line (length ds) 0 ds)
-    ∙ ap (λ n. opening_of line ++ (cells_from line n 0 (plains (bits_of line ds)) ++ ending_of line)) (length-plains line ds)
+    ∙ ap (λ n. opening_of line ++ (cells_from line n 0 (plains (bits_of line ds)) ++ ending_of line))
+    (length-plains line ds)

@@ -39,19 +39,23 @@ holds k = drawn (λ j. draw_by (generator_word k j)) (generator_word k 0 % 3) (m
 
 after_first : (k : ℕ) → k < 2 ^ 64 → (ds : List Draw)
     → sections_at (text_by (demo_name k) ds)
-    ≡ tokens_at (last_line (text_by (demo_name k) ds)) (demo_name k) (lex 0 (after_byte (after_bytes start (codes "X86 " ++ (demo_name k ++ 10 ∷ []))) 123) (rest_text ds))
+    ≡ tokens_at (last_line (text_by (demo_name k) ds)) (demo_name k)
+    (lex 0 (after_byte (after_bytes start (codes "X86 " ++ (demo_name k ++ 10 ∷ []))) 123) (rest_text ds))
 unfolding sections_at head item_at is_blank
 after_first k h ds =
-    ap (λ r. r >>= λ first. head (last_line (text_by (demo_name k) ds)) 0 first.1.at first.1.text >>= λ rest. tokens_at (last_line (text_by (demo_name k) ds)) first.0 (lex 0 rest.at rest.text))
+    ap (λ r. r >>= λ first. head (last_line (text_by (demo_name k) ds)) 0 first.1.at first.1.text >>= λ rest. tokens_at
+    (last_line (text_by (demo_name k) ds)) first.0 (lex 0 rest.at rest.text))
     (first_is 68 (codes "EMO" ++ decimal k) (123 ∷ rest_text ds) (name_printed k h))
 
-reads_as : (text : List ℕ) (test : LitmusTest) → sections_at text ≡ Ok test → limit_of test ≡ None → read_text text ≡ Accepted test
+reads_as : (text : List ℕ) (test : LitmusTest) → sections_at text ≡ Ok test → limit_of test ≡ None
+    → read_text text ≡ Accepted test
 unfolding read_text
 reads_as text test e none = ap answer_of e ∙ ap (limited test) none
 
 -- ---- its length
 
-lengths : (a b c d e f g h : List ℕ) → length a ≤ 24 → length b ≤ 10 → length c ≤ 200 → length d ≤ 200 → length e ≤ 200 → length f ≤ 200 → length g ≤ 200
+lengths : (a b c d e f g h : List ℕ) → length a ≤ 24 → length b ≤ 10 → length c ≤ 200 → length d ≤ 200 → length e ≤ 200
+    → length f ≤ 200 → length g ≤ 200
     → length (h ++ (a ++ (b ++ (c ++ (d ++ (e ++ (f ++ g))))))) ≤ length h + 1034
 lengths a b c d e f g h la lb lc ld le lf lg =
     rw (
@@ -65,13 +69,17 @@ lengths a b c d e f g h la lb lc ld le lf lg =
     ) (omega arith)
 
 name_length : (k : ℕ) → k < 2 ^ 64 → length (demo_name k) ≤ 24
-name_length k h = let few : length (decimal k) ≤ 20 = length-decimal-le 20 k (omega arith) (omega arith) h in rw (length-append (codes "DEMO") (decimal k)) (omega arith)
+name_length k h =
+    let few : length (decimal k) ≤ 20 = length-decimal-le 20 k (omega arith) (omega arith) h in
+    rw (length-append (codes "DEMO") (decimal k)) (omega arith)
 
 text_length : (k : ℕ) → k < 2 ^ 64 → (ds : List Draw) → Holds ds → length (text_by (demo_name k) ds) ≤ 65536
 text_length k h ds holds =
     let few : length (text_by (demo_name k) ds) ≤ length (codes "X86 ") + 1034 =
-    lengths (demo_name k) (codes "\n{ }\n") (line_text Columns ds) (line_text First ds) (line_text Middle ds) (line_text Last ds) (line_text Condition ds) (codes "X86 ")
-    (name_length k h) (omega arith) (holds.short Columns) (holds.short First) (holds.short Middle) (holds.short Last) (holds.short Condition) in
+    lengths (demo_name k) (codes "\n{ }\n") (line_text Columns ds) (line_text First ds) (line_text Middle ds)
+    (line_text Last ds) (line_text Condition ds) (codes "X86 ")
+    (name_length k h) (omega arith) (holds.short Columns) (holds.short First) (holds.short Middle) (holds.short Last)
+    (holds.short Condition) in
     omega arith
 
 -- ---- the law
@@ -85,7 +93,8 @@ reads_as_test k h =
     let test : LitmusTest = test_for (demo_name k) (draws_of k) in
     let kinds = kinds_from test 0 (bits_of Condition (draws_of k)) (all.kinds (demo_name k)) in
     let read : read_text (demo_text_of k) ≡ Accepted test =
-    reads_as (demo_text_of k) test (after_first k h (draws_of k) ∙ all.reads _ (demo_name k) _) (all.within (demo_name k)) in
+    reads_as (demo_text_of k) test (after_first k h (draws_of k) ∙ all.reads _ (demo_name k) _)
+    (all.within (demo_name k)) in
     let threads : length test.bodies ≡ length (draws_of k) = all.threads (demo_name k) in
     record {
       test = test;

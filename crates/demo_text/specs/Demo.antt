@@ -21,7 +21,7 @@ draw_by word = record { fenced = word % 2 == 1; loads_first = word / 2 % 2 == 1;
 abbrev pub demo_threads : ℕ → ℕ
 demo_threads k = threads_by (generator_word k 0)
 
--- what the words behind the first draw, one for each thread
+-- what the words after the first draw, one for each thread
 abbrev pub draws_of : ℕ → List Draw
 draws_of k = map (λ j. draw_by (generator_word k j)) (range_with_len 1 (demo_threads k))
 

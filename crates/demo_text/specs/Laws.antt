@@ -2,6 +2,7 @@
 -- project's own.
 use Rattle.std.specs.Prelude.{◌≡◌, ℕ, ◌<◌, ◌≤◌, ◌^◌, List, length}
 use Rattle.std.specs.Str.{IsAscii}
+use Rattle.perp_base.specs.declared.limits.TheConstants.{MOST_BYTES, MOST_FRAMES}
 use Rattle.x86_subset.specs.Test.{LitmusTest}
 use Rattle.litmus_reader.specs.Answer.{Accepted}
 use Rattle.litmus_reader.specs.Reading.{Reads}
@@ -20,8 +21,8 @@ pub record ReadsAsTest (k : ℕ) : Type 0 where
   pub name : test.name ≡ demo_name k
   pub ascii : IsAscii test.name
   pub threads : length test.bodies ≡ demo_threads k
-  pub frames : demo_iterations_of (length test.bodies) ^ length test.bodies ≤ 4294967296
-  pub short : length (demo_text_of k) ≤ 65536
+  pub frames : demo_iterations_of (length test.bodies) ^ length test.bodies ≤ MOST_FRAMES
+  pub short : length (demo_text_of k) ≤ MOST_BYTES
 
 -- law: each demo text reads as such a test
 abbrev pub DemoTextsAreTests : Type 0

@@ -1,3 +1,4 @@
+//! Worked texts of the demo.
 use crate::{demo_iterations, demo_text};
 use litmus_reader::read_litmus;
 use std::test::Fail;

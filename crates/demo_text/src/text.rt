@@ -1,6 +1,7 @@
 //! The writing of a demo text.
 ghost use Rattle.std.specs.Prelude.{◌≡◌, ◌≤◌, ◌++◌, [], codes, decimal, if◌then◌else◌, length, IfOk, OnOk, string_bytes};
 ghost use Rattle.demo_text.specs.Demo.{action_text, before_cell, cell_of, cells_from, demo_iterations_of, demo_text_of, draw_by, draws_of, ending_of, line_text, separator_of};
+ghost use Rattle.perp_base.specs.declared.limits.TheConstants.{MOST_ITERATIONS};
 
 use crate::draw::Draw;
 use crate::line::Line;
@@ -58,7 +59,8 @@ fn push_fence(out: &mut String, fenced: bool) -> Result<(), NoMemory>
 
 /// Adds the atom of thread `t`.
 fn push_atom(out: &mut String, t: usize, wants_one: bool) -> Result<(), NoMemory>
-    ensures { OnOk result (string_bytes out.new ≡ string_bytes out.old ++ decimal t ++ codes ":EAX=" ++ (if wants_one then codes "1" else codes "0")) }
+    ensures { OnOk result (string_bytes out.new ≡ string_bytes out.old ++ decimal t ++ codes ":EAX="
+        ++ (if wants_one then codes "1" else codes "0")) }
 {
     if wants_one {
         write!(out, "{t}:EAX=1")?;
@@ -92,7 +94,7 @@ fn separator(line: Line) -> &'static str
     }
 }
 
-/// What stands behind the last cell.
+/// What stands after the last cell.
 fn ending(line: Line) -> &'static str
     ensures { result.now ≡ ending_of line }
 {
@@ -114,7 +116,8 @@ fn push_before(out: &mut String, line: Line, t: usize) -> Result<(), NoMemory>
 
 /// Adds the cells of a line, a separator between any two.
 fn push_cells(out: &mut String, line: Line, draws: &[Draw]) -> Result<(), NoMemory>
-    ensures { OnOk result (string_bytes out.new ≡ string_bytes out.old ++ cells_from line (length draws.now) 0 draws.now) }
+    ensures { OnOk result (string_bytes out.new ≡ string_bytes out.old
+        ++ cells_from line (length draws.now) 0 draws.now) }
 {
     for (t, draw) in draws.iter().enumerate() {
         push_before(out, line, t)?;
@@ -135,7 +138,8 @@ fn push_line(out: &mut String, line: Line, draws: &[Draw]) -> Result<(), NoMemor
     Ok(())
 }
 
-/// The demo's text of number `k`: a litmus test of two to four threads in a ring, drawn by the words of Xoshiro256++ seeded by `k`.
+/// The demo's text of number `k`: a litmus test of two to four threads in a ring, drawn by the words of Xoshiro256++
+/// seeded by `k`.
 pub fn demo_text(alloc: Global, k: u64) -> Result<Vec<u8>, NoMemory>
     ensures text { IfOk result (λ text. text.items ≡ demo_text_of k) }
 {
@@ -150,11 +154,12 @@ pub fn demo_text(alloc: Global, k: u64) -> Result<Vec<u8>, NoMemory>
     Ok(text.into_bytes())
 }
 
-/// How often each thread of a demo performs its body, by the number of threads, which is 2, 3 or 4: 4,000, 250 or 60 times.
+/// How often each thread of a demo performs its body, by the number of threads, which is 2, 3 or 4: 4,000, 250 or 60
+/// times.
 pub fn demo_iterations(threads: usize) -> u32
     ensures is { result ≡ demo_iterations_of threads }
     ensures least { 1 ≤ result }
-    ensures most { result ≤ 100000 }
+    ensures most { result ≤ MOST_ITERATIONS }
 {
     match threads {
         2 => 4000,

@@ -1,11 +1,11 @@
 -- What a call of `perple` writes for a text whose test is forbidden.
-use Rattle.std.proofs.Common.{◌≡◌, ℕ, ◌<◌, List, ◌++◌, Some, length, take, inl, inr, sym, subst, ◌∙◌}
+use Rattle.std.proofs.Common.{◌≡◌, ℕ, ◌<◌, List, ◌++◌, Some, length, take, inl, inr, subst}
 use Rattle.x86_subset.specs.Test.{LitmusTest}
 use Rattle.profile_check.specs.Kinds.{AreKinds}
 use Rattle.profile_check.specs.Profile.{IsChecked}
 use Rattle.litmus_reader.specs.Answer.{Accepted}
 use Rattle.litmus_reader.specs.Reading.{Reads}
-use Rattle.litmus_reader.proofs.ReadingLaws.{one_reading}
+use Rattle.litmus_reader.proofs.ReadingLaws.{same_test}
 use Rattle.tso_words.specs.Seats.{Ended as Closed}
 use Rattle.command_words.specs.Job.{Asked as Job}
 use Rattle.command_words.specs.declared.job.Command.{Command}
@@ -21,17 +21,12 @@ use Rattle.forbidden_runs.specs.Texts.{IsForbidden, zero_text}
 use Rattle.litmus_reader.proofs.TestLaws.{reads_tests}
 use Rattle.forbidden_runs.proofs.Reports.{replays_give_no_other_text, runs_give_no_other_text}
 
--- a text reads as one test
-same_test : (text : List ℕ) (a b : LitmusTest) → Reads text (Accepted a) → Reads text (Accepted b) → a ≡ b
-same_test text a b p q =
-    let same : Accepted a ≡ Accepted b = sym ((one_reading text).1 (Accepted a) p) ∙ (one_reading text).1 (Accepted b) q in
-    cc
-
 -- the right answer is the report that nothing was seen
 run_is : (job : Job) (test : LitmusTest) (done : Closed) (answer : List ℕ)
     → IsChecked (read_test test) → IsForbidden (read_test test)
     → IsText (Run job) test done answer → answer ≡ zero_text test job
-run_is job test done answer is forbidden right = runs_give_no_other_text (read_test test) job done answer is forbidden right
+run_is job test done answer is forbidden right =
+    runs_give_no_other_text (read_test test) job done answer is forbidden right
 
 replay_is : (job : Job) (test : LitmusTest) (done : Closed) (answer : List ℕ)
     → IsChecked (read_test test) → IsForbidden (read_test test)
@@ -47,10 +42,11 @@ answer_is command job text test done IsOn each reading a =
     let same : a.test ≡ test = same_test text a.test test a.reading reading in
     let kinds : AreKinds test (kinds_of test) =
     subst (λ (t : LitmusTest). AreKinds t (kinds_of t)) same (none_due_has_kinds command a.test a.none_due) in
-    let right : IsText command test done a.answer = subst (λ (t : LitmusTest). IsText command t done a.answer) same a.right in
+    let right : IsText command test done a.answer = subst (λ (t : LitmusTest). IsText command t done a.answer) same
+    a.right in
     subst IsOn (each a.answer (record { kinds = kinds; test = reads_tests text test reading }) right) a.is_on
 
--- a proper part of a text stands on `out` behind what was there
+-- a proper part of a text stands on `out` after what was there
 abbrev IsPartOn : List ℕ → View → List ℕ → Type 0
 IsPartOn before out text = (n : ℕ) × (n < length text) × (out.bytes ≡ Some (before ++ take n text))
 

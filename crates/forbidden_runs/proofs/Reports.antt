@@ -4,15 +4,15 @@ use native.Mathlib.Nat.{pow-suc}
 use Rattle.std.proofs.lemmas.Fmt.{decimal_digit}
 use Rattle.std.specs.List.{range_with_len}
 use Rattle.x86_subset.specs.Test.{LitmusTest}
-use Rattle.seq_conv.specs.Event.{Event}
-use Rattle.seq_conv.specs.Frame.{frame_of, frames_of}
-use Rattle.seq_conv.specs.Run.{IsRunOf}
+use Rattle.tso_machine.specs.Event.{Event}
+use Rattle.tso_machine.specs.Frame.{frame_of, frames_of}
+use Rattle.tso_machine.specs.Run.{IsRunOf}
 use Rattle.profile_check.specs.Profile.{CheckedTest, IsChecked}
 use Rattle.profile_check.specs.declared.kind.AtomKind.{AtomKind}
 use Rattle.outcome_conv.specs.Hits.{hits_of, is_hit}
 use Rattle.outcome_conv.specs.Picks.{picked_hits}
 use Rattle.outcome_conv.proofs.Picks.{listed_are_hits_lem}
-use Rattle.tso_runs.specs.declared.options.Options.{Options}
+use Rattle.perp_base.specs.declared.options.Options.{Options}
 use Rattle.tso_runs.specs.Fits.{Fits}
 use Rattle.tso_runs.specs.Schedule.{IsScheduled}
 use Rattle.tso_runs.proofs.Fitting.{fitting_run, scheduled_run}
@@ -90,7 +90,8 @@ rows_of_counts test options count hits listed = record {
 abbrev report_by : LitmusTest → Job → List Event → List AtomKind → List ℕ
 report_by test job run kinds =
     let n = job.options.iterations in
-    report_of (rows_of_counts test job.options job.count (length (hits_of test kinds n run)) (picked_hits test n run kinds))
+    report_of (rows_of_counts test job.options job.count (length (hits_of test kinds n run))
+    (picked_hits test n run kinds))
 
 text_is : (checked : CheckedTest) (job : Job) (run : List Event) → IsChecked checked
     → text_of checked.test job run ≡ report_by checked.test job run checked.kinds

@@ -4,13 +4,13 @@
 use Rattle.std.specs.Prelude.{◌≡◌, ◌⊎◌, ℕ, ◌<◌, List, ◌++◌, Some, Vec, length, take}
 use Rattle.std.specs.Global.{Global}
 use Rattle.x86_subset.specs.Test.{LitmusTest}
-use Rattle.seq_conv.specs.Event.{Event}
-use Rattle.seq_conv.specs.Run.{IsRunOf}
+use Rattle.tso_machine.specs.Event.{Event}
+use Rattle.tso_machine.specs.Run.{IsRunOf}
 use Rattle.profile_check.specs.Profile.{CheckedTest, IsChecked}
 use Rattle.litmus_reader.specs.Answer.{Accepted}
 use Rattle.litmus_reader.specs.Reading.{Reads}
 use Rattle.tso_words.specs.Seats.{Ended as Closed}
-use Rattle.tso_runs.specs.declared.schedule.Schedule.{Schedule}
+use Rattle.perp_base.specs.declared.schedule.Schedule.{Schedule}
 use Rattle.command_words.specs.Job.{Asked as Job}
 use Rattle.command_words.specs.Words.{command_of}
 use Rattle.command_words.specs.declared.job.Command.TheVariants.{Run, Replay}

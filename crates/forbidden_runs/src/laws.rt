@@ -21,8 +21,8 @@ pub fn forbidden_verdicts_forbid()
     ensures { ForbiddenVerdictsForbid }
 {}
 
-/// What the clauses `whole` and `part` of `perple` say: its `run` and its `replay` write that report, or with a fault of writing a
-/// part of it.
+/// What the clauses `whole` and `part` of `perple` say: its `run` and its `replay` write that report, or with a fault
+/// of writing a part of it.
 pub fn perple_reports_nothing_forbidden()
     ensures { PerpleReportsNothingForbidden }
 {}

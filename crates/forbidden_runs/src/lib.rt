@@ -1,11 +1,11 @@
 //! A forbidden outcome is never reported.
 //!
 //! Where `verdict` finds a cycle of edges for each conjunction of a test, no run of x86-TSO has a hit. The laws of this
-//! crate carry that to the bytes that `perple` writes: for such a test `run` and `replay` write `zero_text` (`specs/Texts`),
-//! whose counts are 0, which lists no hit and which ends with `Seen no`.
+//! crate carry that to the bytes that `perple` writes: for such a test `run` and `replay` write `zero_text`
+//! (`specs/Texts`), whose counts are 0, which lists no hit and which ends with `Seen no`.
 //!
-//! `laws` has one public function for each law of `specs/Laws`: of one run (`forbidden_runs_report_nothing`), of a text that
-//! is right for what the threads did (`forbidden_runs_give_no_other_text`) or for a schedule
+//! `laws` has one public function for each law of `specs/Laws`: of one run (`forbidden_runs_report_nothing`), of a text
+//! that is right for what the threads did (`forbidden_runs_give_no_other_text`) or for a schedule
 //! (`forbidden_replays_give_no_other_text`), and of what the clauses of `perple` say of a whole call
 //! (`perple_reports_nothing_forbidden`), where `verdict` answers `Forbidden` (`forbidden_verdicts_forbid`).
 #![tactic(auto)]

@@ -1,4 +1,4 @@
-// Each text of examples/, by `verdict` and by `perple`.
+//! Each text of examples/, by `verdict` and by `perple`.
 use super::*;
 use litmus_reader::read_litmus;
 use perp_base::{MemSink, MemSource};
@@ -10,7 +10,7 @@ use std::test::Fail;
 use std::thread::Threads;
 use verdict::{Verdict, verdict};
 
-// A text, and what `run 50 --count both` writes of it where its verdict is Forbidden.
+/// A text, and what `run 50 --count both` writes of it where its verdict is Forbidden.
 const ROWS: [(&str, Option<&str>); 11] = [
     (
         "X86 BUF\n{ }\n P0 ;\n MOV [x],$1 ;\n MOV [y],$1 ;\n MOV EAX,[x] ;\nexists (0:EAX=1)\n",
@@ -68,7 +68,7 @@ const ROWS: [(&str, Option<&str>); 11] = [
     ),
 ];
 
-// Whether the verdict on a text is Forbidden.
+/// Whether the verdict on a text is Forbidden.
 fn is_forbidden(alloc: Global, text: &[u8]) -> Result<bool, Fail> {
     if text.len() > 65536 {
         return Ok(false);
@@ -82,7 +82,7 @@ fn is_forbidden(alloc: Global, text: &[u8]) -> Result<bool, Fail> {
     }
 }
 
-// What `run 50 --count both` writes of a text.
+/// What `run 50 --count both` writes of a text.
 fn reported<R: Threads + Sync>(rt: &R, alloc: Global, text: &[u8]) -> Result<Vec<u8>, Fail> {
     let mut words = Vec::new(alloc);
     for word in ["run", "50", "--count", "both"] {

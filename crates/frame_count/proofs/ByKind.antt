@@ -29,12 +29,16 @@ or_false true = refl
 or_false false = refl
 
 -- one more of the conditions
-pub all_more : {X : Type 0} (p : X → Bool) (xs : List X) (i : ℕ) (d : X) (a w : Bool) → i < length xs → w ≡ (a && list_all p (drop i xs)) → w ≡ ((a && p (get_or xs i d)) && list_all p (drop (i + 1) xs))
-all_more p xs i d a w lt e = e ∙ ap (λ l. a && list_all p l) (drop_more xs i d lt) ∙ and_assoc a (p (get_or xs i d)) (list_all p (drop (i + 1) xs))
+pub all_more : {X : Type 0} (p : X → Bool) (xs : List X) (i : ℕ) (d : X) (a w : Bool) → i < length xs
+    → w ≡ (a && list_all p (drop i xs)) → w ≡ ((a && p (get_or xs i d)) && list_all p (drop (i + 1) xs))
+all_more p xs i d a w lt e =
+    e ∙ ap (λ l. a && list_all p l) (drop_more xs i d lt)
+    ∙ and_assoc a (p (get_or xs i d)) (list_all p (drop (i + 1) xs))
 
 pub all_end : {X : Type 0} (p : X → Bool) (rest : List X) (a w : Bool) → rest ≡ [] → w ≡ (a && list_all p rest) → w ≡ a
 all_end p rest a w z e = e ∙ ap (λ l. a && list_all p l) z ∙ and_true a
 
 -- one more conjunction
-pub some_more : {X : Type 0} (p : X → Bool) (x : X) (xs ys : List X) (a w : Bool) → ys ≡ x ∷ xs → w ≡ (a || list_any p ys) → w ≡ ((a || p x) || list_any p xs)
+pub some_more : {X : Type 0} (p : X → Bool) (x : X) (xs ys : List X) (a w : Bool) → ys ≡ x ∷ xs
+    → w ≡ (a || list_any p ys) → w ≡ ((a || p x) || list_any p xs)
 some_more p x xs ys a w z e = e ∙ ap (λ l. a || list_any p l) z ∙ or_assoc a (p x) (list_any p xs)

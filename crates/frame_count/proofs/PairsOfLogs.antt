@@ -9,7 +9,8 @@ use Rattle.frame_count.specs.TwoLogs.{HasTwo, IsOfTwo}
 pub whole_two : (n columns : ℕ) (logs : List Values) → HasTwo n columns logs → AreWhole n logs
 whole_two n columns logs t = λ i d l. let h = t.1 i d l in h.1 ∙ ap (λ k. n * k) (sym h.0)
 
-pub names_two : (n columns : ℕ) (logs : List Values) (conds : List Cond) → HasTwo n columns logs → All (IsOfTwo columns) conds → All (IsOfLogs logs) conds
+pub names_two : (n columns : ℕ) (logs : List Values) (conds : List Cond) → HasTwo n columns logs
+    → All (IsOfTwo columns) conds → All (IsOfLogs logs) conds
 names_two n columns logs conds t h = λ i d l.
     let c = h i d l in
     let r = c.reader in
@@ -20,7 +21,8 @@ names_two n columns logs conds t h = λ i d l.
     let same = log.0 in
     record { reader = omega arith; writer = omega arith; column = omega arith }
 
-pub frame_two : (n columns first : ℕ) (logs : List Values) (frame : List ℕ) → HasTwo n columns logs → first < n → n ≤ 1000 → frame ≡ first ∷ 0 ∷ [] → IsFrameOf logs n frame
+pub frame_two : (n columns first : ℕ) (logs : List Values) (frame : List ℕ) → HasTwo n columns logs → first < n
+    → n ≤ 1000 → frame ≡ first ∷ 0 ∷ [] → IsFrameOf logs n frame
 frame_two n columns first logs frame t l few e =
     let two = t.0 in
     let long : length frame ≡ 2 = ap length e in
@@ -29,6 +31,8 @@ frame_two n columns first logs frame t l few e =
       whole = whole_two n columns logs t;
       some = omega arith;
       one_each = omega arith;
-      below = subst P (sym e) (All-cons (λ i. i < n) first (0 ∷ []) l (All-cons (λ i. i < n) 0 [] (omega arith) (All-nil (λ i. i < n))));
+      below =
+          subst P (sym e) (All-cons (λ i. i < n) first (0
+          ∷ []) l (All-cons (λ i. i < n) 0 [] (omega arith) (All-nil (λ i. i < n))));
       few = omega arith;
     }

@@ -3,12 +3,14 @@ use Rattle.std.proofs.Common.{◌≡◌, ℕ, ◌<◌, ◌≤◌, Bool, List, tr
 use Rattle.std.proofs.lemmas.Bool.{cases_lt, leb-true, ltb-true}
 use Rattle.std.specs.List.Sorted.{IsPartitionPoint}
 
-side : (p : ℕ → Bool) (xs : List ℕ) (k m : ℕ) → IsPartitionPoint (λ y. p y ≡ true) (λ y. p y ≡ false) xs k → m < length xs → (m < k) ⊎ (k ≤ m) → p (slice_index xs m) ≡ nat_lt m k
+side : (p : ℕ → Bool) (xs : List ℕ) (k m : ℕ) → IsPartitionPoint (λ y. p y ≡ true) (λ y. p y ≡ false) xs k
+    → m < length xs → (m < k) ⊎ (k ≤ m) → p (slice_index xs m) ≡ nat_lt m k
 side p xs k m h lt (inl l) = h.0 m 0 (omega arith) l ∙ sym (lt-ltb m k l)
 side p xs k m h lt (inr l) = h.1 m 0 l lt ∙ sym (le-ltb m k l)
 
 -- the test holds of those in front of the place
-pub in_front : (p : ℕ → Bool) (xs : List ℕ) (k : ℕ) → IsPartitionPoint (λ y. p y ≡ true) (λ y. p y ≡ false) xs k → (m : ℕ) → m < length xs → p (slice_index xs m) ≡ nat_lt m k
+pub in_front : (p : ℕ → Bool) (xs : List ℕ) (k : ℕ) → IsPartitionPoint (λ y. p y ≡ true) (λ y. p y ≡ false) xs k
+    → (m : ℕ) → m < length xs → p (slice_index xs m) ≡ nat_lt m k
 in_front p xs k h m lt = side p xs k m h lt (cases_lt m k)
 
 -- what is at most a number below the bound is below it, and so for at most the bound

@@ -1,9 +1,10 @@
--- Frames of logs, and the count of frames by pieces. An exhaustive counter after PerpLE's (Melissaris, Markakis, Shaw and
--- Martonosi, MICRO 2020); the cut into pieces is this project's own.
+-- Frames of logs, and the count of frames by pieces. An exhaustive counter after PerpLE's (Melissaris, Markakis, Shaw
+-- and Martonosi, MICRO 2020); the cut into pieces is this project's own.
 use Rattle.std.specs.Prelude.{◌≡◌, ℕ, ◌<◌, ◌≤◌, ◌+◌, ◌-◌, ◌*◌, ◌/◌, ◌%◌, ◌^◌, ◌==◌, Bool, List, All, cond, count_by, length, slice_set}
 use Rattle.std.specs.List.{range_with_len}
+use Rattle.perp_base.specs.declared.limits.TheConstants.{MOST_FRAMES, MOST_ITERATIONS, MOST_PIECES}
 use Rattle.load_log.specs.Values.{AreWhole, Values, log_at, value_at}
-use Rattle.seq_conv.specs.Frame.{frame_of}
+use Rattle.tso_machine.specs.Frame.{frame_of}
 use Rattle.outcome_conv.specs.declared.cond.Cond.{Cond}
 use Rattle.outcome_conv.specs.Conditions.{Conditions, IsKind}
 use Rattle.outcome_conv.specs.Conds.{conds_hold}
@@ -14,7 +15,7 @@ pub record IsFrameOf (logs : List Values) (n : ℕ) (frame : List ℕ) : Type 0 
   pub some : 1 ≤ length logs
   pub one_each : length frame ≡ length logs
   pub below : All (λ i. i < n) frame
-  pub few : n ≤ 100000
+  pub few : n ≤ MOST_ITERATIONS
 
 -- a condition that names threads of the logs and a column of its reader's
 pub record IsOfLogs (logs : List Values) (c : Cond) : Type 0 where
@@ -39,7 +40,8 @@ frame_holds c logs frame = conds_hold (value_at logs) c.ends c.conds frame
 abbrev pub number_holds : Conditions → List Values → ℕ → ℕ → Bool
 number_holds c logs n number = frame_holds c logs (frame_of n (length logs) number)
 
--- all frames are cut into so many pieces of neighbouring numbers and nearly the same size: the number of the first frame of piece j
+-- all frames are cut into so many pieces of neighbouring numbers and nearly the same size: the number of the first
+-- frame of piece j
 abbrev pub cut_at : ℕ → ℕ → ℕ → ℕ
 cut_at all cut j = j * all / cut
 
@@ -55,12 +57,12 @@ piece_by_turns cut j = cond (j % 2 == 0) (j / 2) (cut - 1 - j / 2)
 -- what the count of a piece needs
 pub record CanCount (c : Conditions) (logs : List Values) (n all cut : ℕ) : Type 0 where
   pub iteration : 1 ≤ n
-  pub iterations : n ≤ 100000
+  pub iterations : n ≤ MOST_ITERATIONS
   pub thread : 1 ≤ length logs
   pub threads : length logs ≤ 8
   pub all_is : all ≡ n ^ length logs
-  pub few : all ≤ 4294967296
+  pub few : all ≤ MOST_FRAMES
   pub cut_some : 1 ≤ cut
-  pub cut_few : cut ≤ 65536
+  pub cut_few : cut ≤ MOST_PIECES
   pub whole : AreWhole n logs
   pub names : All (IsOfLogs logs) c.conds

@@ -12,7 +12,8 @@ use Rattle.frame_count.specs.declared.stretch.Stretch.{Stretch}
 -- the stretches leave a row to the conditions up to n, and to no test that changes from row to row
 abbrev pub LeaveSteady : Conditions → List Values → ℕ → List Stretch → List ℕ → Type 0
 LeaveSteady c logs n stretches frame =
-    (j : ℕ) (d : Stretch) → j < length c.ends → Leaves n logs frame (conjunction_of c.ends c.conds j) (slice_index_or stretches j d) × ((slice_index_or stretches j d).row ≡ false)
+    (j : ℕ) (d : Stretch) → j < length c.ends → Leaves n logs frame (conjunction_of c.ends c.conds j)
+    (slice_index_or stretches j d) × ((slice_index_or stretches j d).row ≡ false)
 
 -- each row that these stretches leave so has as many hits between the bounds
 abbrev pub Counts : Conditions → List Values → Counted → Type 0

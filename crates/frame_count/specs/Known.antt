@@ -10,7 +10,8 @@ use Rattle.frame_count.specs.Row.{mask_along, residue_fits}
 use Rattle.frame_count.specs.declared.known.Known.{Known}
 use Rattle.frame_count.specs.declared.known.Word.{Word}
 
--- the sixty-four values from this one on are between the least and the greatest, and those that have the residue are marked
+-- the sixty-four values from this one on are between the least and the greatest, and those that have the residue are
+-- marked
 pub record Knows (kind : CondKind) (value : ℕ → ℕ) (at : ℕ) (w : Word) : Type 0 where
   pub least : (m : ℕ) → at ≤ m → m < at + 64 → w.least ≤ value m
   pub most : (m : ℕ) → at ≤ m → m < at + 64 → value m ≤ w.most
@@ -26,7 +27,8 @@ pub record IsKnown (c : Conditions) (logs : List Values) (k : Known) : Type 0 wh
   pub one : length c.ends ≡ 1
   pub good : IsGood logs k.cond
   pub alone : IsAlone (conjunction_of c.ends c.conds 0) (length logs - 1) k.cond
-  pub words : (j : ℕ) (d : Word) → j < k.words → Knows k.cond.kind (value_at logs k.cond.reader k.cond.column) (64 * j) (slice_index_or k.of j d)
+  pub words : (j : ℕ) (d : Word) → j < k.words
+      → Knows k.cond.kind (value_at logs k.cond.reader k.cond.column) (64 * j) (slice_index_or k.of j d)
 
 -- where there is a word, it is known
 abbrev pub Tells : Conditions → List Values → Known → Type 0

@@ -1,6 +1,6 @@
--- A row of frames: all iterations of the last thread, with those of the other threads fixed. What is known of a condition along a row, and
--- what is left to test (the counter is after PerpLE's: Melissaris, Markakis, Shaw and Martonosi, MICRO 2020; stretches and lanes
--- are this project's own).
+-- A row of frames: all iterations of the last thread, with those of the other threads fixed. What is known of a
+-- condition along a row, and what is left to test (the counter is after PerpLE's: Melissaris, Markakis, Shaw and
+-- Martonosi, MICRO 2020; stretches and lanes are this project's own).
 use Rattle.std.specs.Prelude.{◌≡◌, ℕ, ◌+◌, ◌-◌, ◌*◌, ◌<◌, ◌%◌, ◌==◌, ◌&&◌, ◌||◌, Bool, List, length, map, nat_le, nat_lt, not, true}
 use Rattle.std.specs.List.{list_all, range_with_len}
 use Rattle.std.specs.Simd.Lanes.{mask_l}
@@ -44,17 +44,22 @@ holds_along logs frame m c = cond_holds (value_at logs) (with_last frame m) c
 
 -- the same of a condition on what the last thread logged of another thread's stores; nothing is asked of the others
 abbrev pub row_along : List Values → List ℕ → ℕ → Cond → Bool
-row_along logs frame m c = not (c.reader == length frame - 1 && not (c.writer == length frame - 1)) || holds_along logs frame m c
+row_along logs frame m c =
+    not (c.reader == length frame - 1 && not (c.writer == length frame - 1)) || holds_along logs frame m c
 
 -- the same of a condition on what the last thread logged of its own stores, which is the same in each row
 abbrev pub own_along : List Values → ℕ → ℕ → Cond → Bool
-own_along logs last m c = not (c.reader == last && c.writer == last) || kind_holds c.kind (value_at logs last c.column m) m
+own_along logs last m c =
+    not (c.reader == last && c.writer == last) || kind_holds c.kind (value_at logs last c.column m) m
 
 -- what a stretch leaves to test of a condition
 abbrev pub left_along : List Values → List ℕ → Stretch → ℕ → Cond → Bool
-left_along logs frame s m c = (not s.row || row_along logs frame m c) && (not s.own || own_along logs (length frame - 1) m c)
+left_along logs frame s m c =
+    (not s.row || row_along logs frame m c) && (not s.own || own_along logs (length frame - 1) m c)
 
--- the stretch leaves the row to the conditions: below n all of them hold where the stretch is and what it leaves to test passes
+-- the stretch leaves the row to the conditions: below n all of them hold where the stretch is and what it leaves to
+-- test passes
 abbrev pub Leaves : ℕ → List Values → List ℕ → List Cond → Stretch → Type 0
 Leaves n logs frame conds s =
-    (m : ℕ) → m < n → list_all (holds_along logs frame m) conds ≡ (is_within s m && list_all (left_along logs frame s m) conds)
+    (m : ℕ) → m < n → list_all (holds_along logs frame m) conds
+    ≡ (is_within s m && list_all (left_along logs frame s m) conds)

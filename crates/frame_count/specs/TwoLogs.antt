@@ -5,7 +5,8 @@ use Rattle.outcome_conv.specs.declared.cond.Cond.{Cond}
 
 -- two logs of n iterations with so many columns
 abbrev pub HasTwo : ℕ → ℕ → List Values → Type 0
-HasTwo n columns logs = (length logs ≡ 2) × All (λ log. (log.columns ≡ columns) × (length log.values ≡ n * columns)) logs
+HasTwo n columns logs =
+    (length logs ≡ 2) × All (λ log. (log.columns ≡ columns) × (length log.values ≡ n * columns)) logs
 
 -- a condition over two such logs
 pub record IsOfTwo (columns : ℕ) (c : Cond) : Type 0 where

@@ -71,7 +71,8 @@ pub(crate) fn holds_at(conds: &Conds, logs: &Logs, frame: &Frame, m: u32) -> boo
     false
 }
 
-/// Whether at a frame the conditions of some conjunction hold, each of its reader's logged value and its writer's iteration.
+/// Whether at a frame the conditions of some conjunction hold, each of its reader's logged value and its writer's
+/// iteration.
 pub fn holds(conds: &Conds, logs: &Logs, frame: &Frame) -> bool
     requires frame { (n : ℕ) × IsFrameOf logs.now.logs n frame.now }
     requires names { All (IsOfLogs logs.now.logs) conds.now.conds }

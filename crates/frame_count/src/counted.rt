@@ -1,4 +1,4 @@
-//! A row that was counted, remembered for the rows behind it.
+//! A row that was counted, remembered for the rows after it.
 ghost use Rattle.std.specs.Prelude.{◌≡◌, ℕ, ◌-◌, ◌<◌, ◌≤◌, All, List, count_by, false, length, slice_index_or, true};
 ghost use Rattle.std.specs.List.{range_with_len};
 ghost use Rattle.load_log.specs.Values.{Values};
@@ -9,12 +9,12 @@ ghost use Rattle.frame_count.specs.Known.{Tells};
 ghost use Rattle.frame_count.specs.declared.stretch.Stretch.{Stretch};
 
 use crate::known::Known;
-use crate::reach::{MOST_CONJUNCTIONS, hull, reaches};
+use crate::reach::{hull, reaches};
 use crate::row::count_row;
 use crate::stretch::Stretch;
 use load_log::Logs;
 use outcome_conv::Conds;
-use perp_base::Frame;
+use perp_base::{Frame, MOST_CONJUNCTIONS};
 
 /// The iterations of the last thread that were counted, the stretch of each conjunction, and the hits.
 #[derive(Clone, Copy)]
@@ -28,7 +28,8 @@ pub(crate) struct Counted {
 /// Whether the stretches are the same and leave the same to test.
 fn count_alike(before: &[Stretch], now: &[Stretch]) -> bool
     requires { length now.now ≤ length before.now }
-    ensures { result ≡ true → (c : ℕ) (d : Stretch) → c < length now.now → (slice_index_or before.now c d ≡ slice_index_or now.now c d) × ((slice_index_or before.now c d).row ≡ false) }
+    ensures { result ≡ true → (c : ℕ) (d : Stretch) → c < length now.now
+        → (slice_index_or before.now c d ≡ slice_index_or now.now c d) × ((slice_index_or before.now c d).row ≡ false) }
 {
     for c in 0..now.len() {
         if !before[c].counts_as(now[c]) {
@@ -51,8 +52,9 @@ impl Counted {
         }
     }
 
-    /// The hits of the next row. One with the same bounds and stretches as the row that is remembered, where what they leave to test is the same
-    /// in each row, has as many, and none of its frames is visited. Else it is the one to remember, if a stretch of it is not empty.
+    /// The hits of the next row. One with the same bounds and stretches as the row that is remembered, where what they
+    /// leave to test is the same in each row, has as many, and none of its frames is visited. Else it is the one to
+    /// remember, if a stretch of it is not empty.
     pub(crate) fn next(
         &mut self,
         conds: &Conds,
@@ -66,7 +68,8 @@ impl Counted {
         requires names { All (IsOfLogs logs.now.logs) conds.now.conds }
         requires known { Tells conds.now logs.now.logs known.now }
         requires counts { Counts conds.now logs.now.logs self.old }
-        ensures hits { result ≡ count_by (λ m. frame_holds conds.now logs.now.logs (with_last frame.now m)) (range_with_len from (to - from)) }
+        ensures hits { result ≡ count_by (λ m. frame_holds conds.now logs.now.logs (with_last frame.now m))
+            (range_with_len from (to - from)) }
         ensures counts { Counts conds.now logs.now.logs self.new }
     {
         let stretches = reaches(conds, logs, frame, to);

@@ -6,6 +6,7 @@ ghost use Rattle.outcome_conv.specs.Conditions.{Conditions, IsKind};
 ghost use Rattle.frame_count.specs.Count.{IsGood, IsOfLogs};
 ghost use Rattle.frame_count.specs.Known.{IsAlone, Knows, Tells};
 ghost use Rattle.frame_count.specs.Row.{kind_test, mask_along};
+ghost use Rattle.perp_base.specs.declared.limits.TheConstants.{MOST_ITERATIONS};
 
 use crate::lanes::{fitting_word, values_word};
 use load_log::Logs;
@@ -25,7 +26,8 @@ pub(crate) struct Word {
 /// The least and the greatest of sixty-four values.
 fn least_and_most(values: &[u64], at: usize) -> (u64, u64)
     requires room { at + 64 ≤ length values.now }
-    ensures { (m : ℕ) → at ≤ m → m < at + 64 → (result.0 ≤ slice_index values.now m) × (slice_index values.now m ≤ result.1) }
+    ensures { (m : ℕ) → at ≤ m → m < at + 64 → (result.0 ≤ slice_index values.now m)
+        × (slice_index values.now m ≤ result.1) }
 {
     let mut least = u64::MAX;
     let mut most = 0u64;
@@ -48,7 +50,7 @@ impl Word {
 
     /// What a condition wants to know of the sixty-four values of its column from `at` on.
     fn of(cond: &Cond, logs: &Logs, n: usize, at: usize) -> Word
-        requires iterations { (n ≤ 100000) × (at + 64 ≤ n) }
+        requires iterations { (n ≤ MOST_ITERATIONS) × (at + 64 ≤ n) }
         requires whole { AreWhole n logs.now.logs }
         requires names { IsGood logs.now.logs cond.now }
         ensures { Knows cond.now.kind (value_at logs.now.logs cond.now.reader cond.now.column) at result }
@@ -76,7 +78,8 @@ impl Word {
     /// Which of the sixty-four values pass, where all are on one side of the bound.
     #[inline(always)]
     fn passing(self, kind: CondKind, bound: u64) -> Option<u64>
-        ensures { IfSome result (λ w. (value : ℕ → ℕ) (at : ℕ) → Knows kind value at self → w ≡ mask_along (λ m. kind_test kind (value m) bound) at 64) }
+        ensures { IfSome result (λ w. (value : ℕ → ℕ) (at : ℕ) → Knows kind value at self
+            → w ≡ mask_along (λ m. kind_test kind (value m) bound) at 64) }
     {
         match kind {
             CondKind::AtLeast { .. } => self.by_side(bound, 0, self.fits),
@@ -115,10 +118,11 @@ fn alone(conds: &[Cond], logs: &Logs) -> Option<Cond>
 
 /// What a condition wants to know of its column in the first `n` iterations, word by word.
 fn words(cond: &Cond, logs: &Logs, n: usize) -> [Word; MOST_WORDS]
-    requires iterations { n ≤ 100000 }
+    requires iterations { n ≤ MOST_ITERATIONS }
     requires whole { AreWhole n logs.now.logs }
     requires names { IsGood logs.now.logs cond.now }
-    ensures { (j : ℕ) (d : Word) → j < n / 64 → Knows cond.now.kind (value_at logs.now.logs cond.now.reader cond.now.column) (64 * j) (slice_index_or result j d) }
+    ensures { (j : ℕ) (d : Word) → j < n / 64 → Knows cond.now.kind
+        (value_at logs.now.logs cond.now.reader cond.now.column) (64 * j) (slice_index_or result j d) }
 {
     let mut words = [Word::any(); MOST_WORDS];
     for j in 0..n / 64 {
@@ -147,7 +151,7 @@ impl Known {
 
     /// What is known of the first `n` iterations.
     pub(crate) fn of(conds: &Conds, logs: &Logs, n: usize) -> Known
-        requires iterations { n ≤ 100000 }
+        requires iterations { n ≤ MOST_ITERATIONS }
         requires threads { 1 ≤ length logs.now.logs }
         requires whole { AreWhole n logs.now.logs }
         requires names { All (IsOfLogs logs.now.logs) conds.now.conds }
@@ -170,8 +174,9 @@ impl Known {
     #[inline(always)]
     fn word(&self, values: &[u64], bound: u64, j: usize) -> u64
         requires kind { IsKind self.now.cond.kind }
-        requires room { (64 * j + 64 ≤ length values.now) × (64 * j + 64 ≤ 100000) }
-        requires known { (d : Word) → Knows self.now.cond.kind (slice_index values.now) (64 * j) (slice_index_or self.now.of j d) }
+        requires room { (64 * j + 64 ≤ length values.now) × (64 * j + 64 ≤ MOST_ITERATIONS) }
+        requires known { (d : Word) → Knows self.now.cond.kind (slice_index values.now) (64 * j)
+            (slice_index_or self.now.of j d) }
         ensures { result ≡ mask_along (λ m. kind_test self.now.cond.kind (slice_index values.now m) bound) (64 * j) 64 }
     {
         match self.of[j].passing(self.cond.kind, bound) {
@@ -184,8 +189,10 @@ impl Known {
     pub(crate) fn count(&self, values: &[u64], bound: u64, from: usize, to: usize) -> u64
         requires kind { IsKind self.now.cond.kind }
         requires words { (from ≤ to) × (64 * to ≤ 99999) × (64 * to ≤ length values.now) }
-        requires known { (j : ℕ) (d : Word) → j < to → Knows self.now.cond.kind (slice_index values.now) (64 * j) (slice_index_or self.now.of j d) }
-        ensures { result ≡ count_by (λ m. kind_test self.now.cond.kind (slice_index values.now m) bound) (range_with_len (64 * from) (64 * to - 64 * from)) }
+        requires known { (j : ℕ) (d : Word) → j < to
+            → Knows self.now.cond.kind (slice_index values.now) (64 * j) (slice_index_or self.now.of j d) }
+        ensures { result ≡ count_by (λ m. kind_test self.now.cond.kind (slice_index values.now m) bound)
+            (range_with_len (64 * from) (64 * to - 64 * from)) }
     {
         let mut total = 0u64;
         for j in from..to {

@@ -5,6 +5,7 @@ ghost use Rattle.std.specs.Simd.Lanes.{Each1, mask_l, zip2};
 ghost use Rattle.outcome_conv.specs.Conditions.{IsKind};
 ghost use Rattle.outcome_conv.specs.Conds.{kind_holds};
 ghost use Rattle.frame_count.specs.Row.{bound_of, kind_test, mask_along, residue_fits};
+ghost use Rattle.perp_base.specs.declared.limits.TheConstants.{MOST_ITERATIONS};
 
 use outcome_conv::CondKind;
 use std::simd::prelude::*;
@@ -58,8 +59,8 @@ fn equal_bits(value: u64x8, bound: u64x8) -> u64
     value.simd_eq(bound).to_bitmask()
 }
 
-/// Which lanes of at most 48 bits have the residue `a` for `k`, where `gap` more is a multiple of `k`. A number is one exactly where its
-/// product with `step`, modulo 2^64, is below `step`; so no lane is divided.
+/// Which lanes of at most 48 bits have the residue `a` for `k`, where `gap` more is a multiple of `k`. A number is one
+/// exactly where its product with `step`, modulo 2^64, is below `step`; so no lane is divided.
 #[inline(always)]
 fn multiple_bits(value: u64x8, k: u64, a: u64, gap: u64, step: u64) -> u64
     requires some { (2 ≤ k) × (k ≤ 128) }
@@ -75,7 +76,8 @@ fn multiple_bits(value: u64x8, k: u64, a: u64, gap: u64, step: u64) -> u64
     )
 }
 
-/// Which lanes have the residue `a` for `k`, a power of two, as where a location has two or four stores: by their low digits.
+/// Which lanes have the residue `a` for `k`, a power of two, as where a location has two or four stores: by their low
+/// digits.
 #[inline(always)]
 fn masked_bits(value: u64x8, k: u64, a: u64) -> u64
     requires power { (j : ℕ) × (j < 64) × (k ≡ 2 ^ j) }
@@ -109,7 +111,7 @@ fn residue_bits(value: u64x8, k: u64, a: u64, gap: u64, step: u64) -> u64
 /// The mask of sixty-four iterations, from those of eight.
 #[inline(always)]
 fn sixty_four<F: Fn(usize) -> u64>(at: usize, eight: F) -> u64
-    requires at { at + 64 ≤ 100000 }
+    requires at { at + 64 ≤ MOST_ITERATIONS }
     requires calls { (i : ℕ) → at ≤ i → i + 8 ≤ at + 64 → F.pre eight i }
     ensures { (p : ℕ → Bool) → ((i r : ℕ) → F.post eight i r → r ≡ mask_along p i 8) → result ≡ mask_along p at 64 }
 {
@@ -126,7 +128,7 @@ fn sixty_four<F: Fn(usize) -> u64>(at: usize, eight: F) -> u64
 
 /// Which of sixty-four values are below the bound.
 fn less_word(values: &[u64], bound: u64, at: usize) -> u64
-    requires at { at + 64 ≤ 100000 }
+    requires at { at + 64 ≤ MOST_ITERATIONS }
     requires room { at + 64 ≤ length values.now }
     ensures { result ≡ mask_along (λ m. nat_lt (slice_index values.now m) bound) at 64 }
 {
@@ -141,7 +143,7 @@ fn less_word(values: &[u64], bound: u64, at: usize) -> u64
 
 /// Which of sixty-four values are at least the bound.
 fn at_least_word(values: &[u64], bound: u64, at: usize) -> u64
-    requires at { at + 64 ≤ 100000 }
+    requires at { at + 64 ≤ MOST_ITERATIONS }
     requires room { at + 64 ≤ length values.now }
     ensures { result ≡ mask_along (λ m. nat_le bound (slice_index values.now m)) at 64 }
 {
@@ -156,7 +158,7 @@ fn at_least_word(values: &[u64], bound: u64, at: usize) -> u64
 
 /// Which of sixty-four values are the bound.
 fn equal_word(values: &[u64], bound: u64, at: usize) -> u64
-    requires at { at + 64 ≤ 100000 }
+    requires at { at + 64 ≤ MOST_ITERATIONS }
     requires room { at + 64 ≤ length values.now }
     ensures { result ≡ mask_along (λ m. nat_eq (slice_index values.now m) bound) at 64 }
 {
@@ -172,7 +174,7 @@ fn equal_word(values: &[u64], bound: u64, at: usize) -> u64
 /// Which of sixty-four values are below `k * m + a`, each by its own iteration `m`.
 fn own_less_word(values: &[u64], k: u64, a: u64, at: usize) -> u64
     requires line { (1 ≤ k) × (k ≤ 128) × (1 ≤ a) × (a ≤ 128) }
-    requires at { at + 64 ≤ 100000 }
+    requires at { at + 64 ≤ MOST_ITERATIONS }
     requires room { at + 64 ≤ length values.now }
     ensures { result ≡ mask_along (λ m. nat_lt (slice_index values.now m) (k * m + a)) at 64 }
 {
@@ -188,7 +190,7 @@ fn own_less_word(values: &[u64], k: u64, a: u64, at: usize) -> u64
 /// Which of sixty-four values are at least `k * m + a`, each by its own iteration `m`.
 fn own_at_least_word(values: &[u64], k: u64, a: u64, at: usize) -> u64
     requires line { (1 ≤ k) × (k ≤ 128) × (1 ≤ a) × (a ≤ 128) }
-    requires at { at + 64 ≤ 100000 }
+    requires at { at + 64 ≤ MOST_ITERATIONS }
     requires room { at + 64 ≤ length values.now }
     ensures { result ≡ mask_along (λ m. nat_le (k * m + a) (slice_index values.now m)) at 64 }
 {
@@ -204,7 +206,7 @@ fn own_at_least_word(values: &[u64], k: u64, a: u64, at: usize) -> u64
 /// Which of sixty-four values are `k * m + a`, each by its own iteration `m`.
 fn own_equal_word(values: &[u64], k: u64, a: u64, at: usize) -> u64
     requires line { (1 ≤ k) × (k ≤ 128) × (1 ≤ a) × (a ≤ 128) }
-    requires at { at + 64 ≤ 100000 }
+    requires at { at + 64 ≤ MOST_ITERATIONS }
     requires room { at + 64 ≤ length values.now }
     ensures { result ≡ mask_along (λ m. nat_eq (slice_index values.now m) (k * m + a)) at 64 }
 {
@@ -220,7 +222,7 @@ fn own_equal_word(values: &[u64], k: u64, a: u64, at: usize) -> u64
 /// Which of sixty-four values have the residue `a` for `k`, a power of two.
 fn masked_word(values: &[u64], k: u64, a: u64, at: usize) -> u64
     requires power { (j : ℕ) × (j < 64) × (k ≡ 2 ^ j) }
-    requires at { at + 64 ≤ 100000 }
+    requires at { at + 64 ≤ MOST_ITERATIONS }
     requires room { at + 64 ≤ length values.now }
     ensures { result ≡ mask_along (λ m. slice_index values.now m % k == a % k) at 64 }
 {
@@ -236,7 +238,7 @@ fn masked_word(values: &[u64], k: u64, a: u64, at: usize) -> u64
 /// Which of sixty-four values have the residue `a` for `k`.
 fn residue_word(values: &[u64], k: u64, a: u64, at: usize) -> u64
     requires some { (1 ≤ k) × (k ≤ 128) }
-    requires at { at + 64 ≤ 100000 }
+    requires at { at + 64 ≤ MOST_ITERATIONS }
     requires room { at + 64 ≤ length values.now }
     ensures { result ≡ mask_along (λ m. slice_index values.now m % k == a % k) at 64 }
 {
@@ -251,7 +253,8 @@ fn residue_word(values: &[u64], k: u64, a: u64, at: usize) -> u64
     sixty_four(
         at,
         |i: usize| -> u64
-            requires { (2 ≤ k) × (k ≤ 128) × (gap ≡ k - a % k) × (step ≡ (2 ^ 64 - 1) / k + 1) × (i + 8 ≤ length values.now) }
+            requires { (2 ≤ k) × (k ≤ 128) × (gap ≡ k - a % k) × (step ≡ (2 ^ 64 - 1) / k + 1)
+                × (i + 8 ≤ length values.now) }
             ensures { result ≡ mask_along (λ m. slice_index values.entry.now m % k == a % k) i 8 }
         { residue_bits(value_lanes(values, i), k, a, gap, step) },
     )
@@ -260,7 +263,7 @@ fn residue_word(values: &[u64], k: u64, a: u64, at: usize) -> u64
 /// Which of sixty-four values have the residue that a condition of this kind asks.
 pub(crate) fn fitting_word(kind: CondKind, values: &[u64], at: usize) -> u64
     requires kind { IsKind kind }
-    requires at { at + 64 ≤ 100000 }
+    requires at { at + 64 ≤ MOST_ITERATIONS }
     requires room { at + 64 ≤ length values.now }
     ensures { result ≡ mask_along (λ m. residue_fits kind (slice_index values.now m)) at 64 }
 {
@@ -274,7 +277,7 @@ pub(crate) fn fitting_word(kind: CondKind, values: &[u64], at: usize) -> u64
 /// Which of sixty-four values pass, by a bound that stays.
 pub(crate) fn values_word(kind: CondKind, values: &[u64], bound: u64, at: usize) -> u64
     requires kind { IsKind kind }
-    requires at { at + 64 ≤ 100000 }
+    requires at { at + 64 ≤ MOST_ITERATIONS }
     requires room { at + 64 ≤ length values.now }
     ensures { result ≡ mask_along (λ m. kind_test kind (slice_index values.now m) bound) at 64 }
 {
@@ -295,7 +298,7 @@ pub(crate) fn values_word(kind: CondKind, values: &[u64], bound: u64, at: usize)
 /// Which of sixty-four values pass, where the thread that logged them is the writer too.
 pub(crate) fn own_word(kind: CondKind, values: &[u64], at: usize) -> u64
     requires kind { IsKind kind }
-    requires at { at + 64 ≤ 100000 }
+    requires at { at + 64 ≤ MOST_ITERATIONS }
     requires room { at + 64 ≤ length values.now }
     ensures { result ≡ mask_along (λ m. kind_holds kind (slice_index values.now m) m) at 64 }
 {
@@ -330,7 +333,7 @@ fn line(kind: CondKind) -> (u64, u64)
 /// The bound of a writer's iteration.
 pub(crate) fn bound(kind: CondKind, m: u32) -> u64
     requires kind { IsKind kind }
-    requires iteration { m < 100000 }
+    requires iteration { m < MOST_ITERATIONS }
     ensures { result ≡ bound_of kind m }
 {
     let (k, a) = line(kind);

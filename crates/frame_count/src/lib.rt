@@ -1,22 +1,25 @@
 //! The exhaustive counter: at how many frames the conditions of a test hold of its logs.
 //!
 //! `count` goes through all frames, cut into pieces that `rayon` shares among threads. Its clause says that the result
-//! is `count_of` of `outcome_conv` over the logged values, whatever the cut. `row_count` counts the frames of a row, which
-//! differ in the last thread's iteration alone, and `holds` tells of one frame; theirs are counts and values of
+//! is `count_of` of `outcome_conv` over the logged values, whatever the cut. `row_count` counts the frames of a row,
+//! which differ in the last thread's iteration alone, and `holds` tells of one frame; theirs are counts and values of
 //! `conds_hold`. `frames` and `frame_of` number the frames.
 //!
-//! What the other threads' iterations settle of a row is tested once: each conjunction gets a stretch of the last thread's
-//! iterations outside of which it cannot hold (`reach`, its clause `Leaves` of `specs/Row`). Where the last thread's values
-//! never fall, as where one thread writes, the bounds of a stretch are searched for. What is left is tested eight iterations
-//! at once by lanes, sixty-four to a word. Where one condition alone is on what the last thread logged, each word of its column is known
-//! before (`known`, its clause `Tells` of `specs/Known`), and lanes test those alone that the bound of a row cuts.
+//! What the other threads' iterations settle of a row is tested once: each conjunction gets a stretch of the last
+//! thread's iterations outside of which it cannot hold (`reach`, its clause `Leaves` of `specs/Row`). Where the last
+//! thread's values never fall, as where one thread writes, the bounds of a stretch are searched for. What is left is
+//! tested eight iterations at once by lanes, sixty-four to a word. Where one condition alone is on what the last thread
+//! logged, each word of its column is known before (`known`, its clause `Tells` of `specs/Known`), and lanes test those
+//! alone that the bound of a row cuts.
 //!
-//! A row with the bounds and stretches of the row that is remembered, of which no test is left that changes from row to row, has as many
-//! hits; so it is counted in one step (`Counted::next`). What the last thread reads of its own stores is tested in one row for many.
+//! A row with the bounds and stretches of the row that is remembered, of which no test is left that changes from row to
+//! row, has as many hits; so it is counted in one step (`Counted::next`). What the last thread reads of its own stores
+//! is tested in one row for many.
 //!
 //! What that means for the logs of a run is said by the laws of `specs/RunLogs`: the count is the number of hits of the
-//! run (`counts_are_hits`), that of a row the number of its hits (`rows_count_hits`), and what `outcome_conv` says of the
-//! values of a run holds of the logs (`logs_give_the_values`), which meet what the calls ask (`logs_meet_the_conditions`).
+//! run (`counts_are_hits`), that of a row the number of its hits (`rows_count_hits`), and what `outcome_conv` says of
+//! the values of a run holds of the logs (`logs_give_the_values`), which meet what the calls ask
+//! (`logs_meet_the_conditions`).
 #![tactic(auto)]
 
 mod at_frame;
@@ -34,6 +37,6 @@ mod tests;
 
 pub use at_frame::holds;
 pub use laws::{counts_are_hits, logs_give_the_values, logs_meet_the_conditions, rows_count_hits};
-pub use numbers::{MOST_FRAMES, frame_of, frames};
+pub use numbers::{frame_of, frames};
 pub use pieces::count;
 pub use row::row_count;

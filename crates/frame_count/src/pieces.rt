@@ -6,10 +6,11 @@ ghost use Rattle.outcome_conv.specs.Conds.{count_of};
 ghost use Rattle.frame_count.specs.Counted.{Counts};
 ghost use Rattle.frame_count.specs.Known.{Tells};
 ghost use Rattle.frame_count.specs.Count.{CanCount, IsOfLogs, number_holds, piece_by_turns, piece_count};
+ghost use Rattle.perp_base.specs.declared.limits.TheConstants.{MOST_FRAMES, MOST_ITERATIONS, MOST_PIECES, MOST_THREADS};
 
 use crate::counted::Counted;
 use crate::known::Known;
-use crate::numbers::{MOST_FRAMES, frame_of, power};
+use crate::numbers::{frame_of, power};
 use load_log::Logs;
 use outcome_conv::Conds;
 use rayon::prelude::*;
@@ -17,7 +18,7 @@ use std::thread::Threads;
 
 /// The row of the first frame, counted: each piece begins with it, since other rows may count alike.
 fn first_row(conds: &Conds, logs: &Logs, known: &Known, n: u32) -> Counted
-    requires iterations { (1 ≤ n) × (n ≤ 100000) }
+    requires iterations { (1 ≤ n) × (n ≤ MOST_ITERATIONS) }
     requires threads { (1 ≤ length logs.now.logs) × (length logs.now.logs ≤ 8) }
     requires few { n ^ length logs.now.logs ≤ MOST_FRAMES }
     requires whole { AreWhole n logs.now.logs }
@@ -41,7 +42,7 @@ fn piece(
     from: u64,
     to: u64,
 ) -> u64
-    requires iterations { (1 ≤ n) × (n ≤ 100000) }
+    requires iterations { (1 ≤ n) × (n ≤ MOST_ITERATIONS) }
     requires threads { (1 ≤ length logs.now.logs) × (length logs.now.logs ≤ 8) }
     requires numbers { (from ≤ to) × (to ≤ n ^ length logs.now.logs) }
     requires few { n ^ length logs.now.logs ≤ MOST_FRAMES }
@@ -92,8 +93,9 @@ fn piece_at(
     )
 }
 
-/// The piece that is handed out as number `j`. Pieces near the front may take longer than those near the back, or the other way round, and
-/// each processor gets neighbours in this order; so they come from the front and from the back by turns.
+/// The piece that is handed out as number `j`. Pieces near the front may take longer than those near the back, or the
+/// other way round, and each processor gets neighbours in this order; so they come from the front and from the back by
+/// turns.
 fn by_turns(cut: u64, j: u64) -> u64
     requires { j < cut }
     ensures piece { result ≡ piece_by_turns cut j }
@@ -102,8 +104,8 @@ fn by_turns(cut: u64, j: u64) -> u64
     if j % 2 == 0 { j / 2 } else { cut - 1 - j / 2 }
 }
 
-/// At how many frames of `n` iterations of `t` threads the conditions of some conjunction hold. The frame numbers are cut into so many
-/// pieces of nearly the same size, which threads share. It takes no memory.
+/// At how many frames of `n` iterations of `t` threads the conditions of some conjunction hold. The frame numbers are
+/// cut into so many pieces of nearly the same size, which threads share. It takes no memory.
 pub fn count<R: Threads + Sync>(
     rt: &R,
     conds: &Conds,
@@ -112,10 +114,10 @@ pub fn count<R: Threads + Sync>(
     t: usize,
     cut: u32,
 ) -> u64
-    requires iterations { (1 ≤ n) × (n ≤ 100000) }
-    requires threads { (t ≡ length logs.now.logs) × (1 ≤ t) × (t ≤ 8) }
+    requires iterations { (1 ≤ n) × (n ≤ MOST_ITERATIONS) }
+    requires threads { (t ≡ length logs.now.logs) × (1 ≤ t) × (t ≤ MOST_THREADS) }
     requires few { n ^ t ≤ MOST_FRAMES }
-    requires cut { (1 ≤ cut) × (cut ≤ 65536) }
+    requires cut { (1 ≤ cut) × (cut ≤ MOST_PIECES) }
     requires whole { AreWhole n logs.now.logs }
     requires names { All (IsOfLogs logs.now.logs) conds.now.conds }
     ensures { result ≡ count_of (value_at logs.now.logs) conds.now.ends conds.now.conds n t }
@@ -130,7 +132,8 @@ pub fn count<R: Threads + Sync>(
         .into_par_iter()
         .map(
             |j: u64| -> u64
-                requires { CanCount conds.now logs.now.logs n all cut × (j < cut) × Tells conds.now logs.now.logs known.now × Counts conds.now logs.now.logs first.now }
+                requires { CanCount conds.now logs.now.logs n all cut × (j < cut)
+                    × Tells conds.now logs.now.logs known.now × Counts conds.now logs.now.logs first.now }
                 ensures { result ≡ piece_count conds.entry.now logs.entry.now.logs n all cut (piece_by_turns cut j) }
             { piece_at(conds, logs, known, first, n, all, cut, by_turns(cut, j)) },
         )

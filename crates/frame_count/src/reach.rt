@@ -1,4 +1,5 @@
-//! How far the conditions of a row reach: what does not depend on the last thread's iteration is tested here, once a row.
+//! How far the conditions of a row reach: what does not depend on the last thread's iteration is tested here, once a
+//! row.
 ghost use Rattle.std.specs.Prelude.{◌≡◌, ℕ, ◌-◌, ◌<◌, ◌≤◌, ◌==◌, ◌&&◌, ◌||◌, All, false, length, not, slice_index_or, true};
 ghost use Rattle.x86_subset.specs.Conjunctions.{conjunction_of};
 ghost use Rattle.frame_count.specs.Count.{IsFrameOf, IsGood, IsOfLogs};
@@ -10,10 +11,7 @@ use crate::lanes::bound;
 use crate::stretch::Stretch;
 use load_log::Logs;
 use outcome_conv::{Cond, Conds};
-use perp_base::Frame;
-
-/// How many conjunctions there are at most.
-pub(crate) const MOST_CONJUNCTIONS: usize = 8;
+use perp_base::{Frame, MOST_CONJUNCTIONS};
 
 /// Where a condition holds whose reader is not the last thread.
 fn reader_stays(cond: &Cond, logs: &Logs, frame: &Frame, n: usize) -> Stretch
@@ -37,7 +35,8 @@ fn writer_stays(cond: &Cond, logs: &Logs, frame: &Frame, n: usize) -> Stretch
     requires frame { (all : ℕ) × (n ≤ all) × IsFrameOf logs.now.logs all frame.now × IsGood logs.now.logs cond.now }
     requires reader { (cond.now.reader == length frame.now - 1) ≡ true }
     requires writer { (cond.now.writer == length frame.now - 1) ≡ false }
-    ensures tells { (m : ℕ) → m < n → holds_along logs.now.logs frame.now m cond.now ≡ (is_within result m && (not result.row || holds_along logs.now.logs frame.now m cond.now)) }
+    ensures tells { (m : ℕ) → m < n → holds_along logs.now.logs frame.now m cond.now
+        ≡ (is_within result m && (not result.row || holds_along logs.now.logs frame.now m cond.now)) }
     ensures own { result.own ≡ false }
 {
     let column = cond.column as usize;
@@ -53,7 +52,8 @@ fn writer_stays(cond: &Cond, logs: &Logs, frame: &Frame, n: usize) -> Stretch
 /// Where a condition can hold in the first `n` iterations of the last thread.
 fn cond_stretch(cond: &Cond, logs: &Logs, frame: &Frame, n: usize) -> Stretch
     requires frame { (all : ℕ) × (n ≤ all) × IsFrameOf logs.now.logs all frame.now × IsGood logs.now.logs cond.now }
-    ensures tells { (m : ℕ) → m < n → holds_along logs.now.logs frame.now m cond.now ≡ (is_within result m && left_along logs.now.logs frame.now result m cond.now) }
+    ensures tells { (m : ℕ) → m < n → holds_along logs.now.logs frame.now m cond.now
+        ≡ (is_within result m && left_along logs.now.logs frame.now result m cond.now) }
 {
     let last = frame.len() - 1;
     if cond.reader as usize != last {
@@ -67,7 +67,8 @@ fn cond_stretch(cond: &Cond, logs: &Logs, frame: &Frame, n: usize) -> Stretch
 
 /// Where the conditions of a conjunction can hold in the first `n` iterations of the last thread.
 fn reach(conds: &[Cond], logs: &Logs, frame: &Frame, n: usize) -> Stretch
-    requires frame { (all : ℕ) × (n ≤ all) × IsFrameOf logs.now.logs all frame.now × All (IsGood logs.now.logs) conds.now }
+    requires frame { (all : ℕ) × (n ≤ all) × IsFrameOf logs.now.logs all frame.now
+        × All (IsGood logs.now.logs) conds.now }
     ensures { Leaves n logs.now.logs frame.now conds.now result }
 {
     let mut stretch = Stretch::all_or_none(true, n);
@@ -90,7 +91,9 @@ pub(crate) fn reaches(
     requires frame { (all : ℕ) × (n ≤ all) × IsFrameOf logs.now.logs all frame.now }
     requires names { All (IsOfLogs logs.now.logs) conds.now.conds }
     ensures each { length conds.now.ends ≤ length result }
-    ensures leave { (c : ℕ) (d : Stretch) → c < length conds.now.ends → Leaves n logs.now.logs frame.now (conjunction_of conds.now.ends conds.now.conds c) (slice_index_or result c d) }
+    ensures leave { (c : ℕ) (d : Stretch) → c < length conds.now.ends
+        → Leaves n logs.now.logs frame.now (conjunction_of conds.now.ends conds.now.conds c)
+        (slice_index_or result c d) }
 {
     let mut stretches = [Stretch::all_or_none(false, n); MOST_CONJUNCTIONS];
     for c in 0..conds.conjunctions() {
@@ -101,7 +104,8 @@ pub(crate) fn reaches(
 
 /// The iterations from the first to the last that stand in one of these.
 pub(crate) fn hull(stretches: &[Stretch]) -> Stretch
-    ensures { (c m : ℕ) (d : Stretch) → c < length stretches.now → is_within (slice_index_or stretches.now c d) m ≡ true → is_within result m ≡ true }
+    ensures { (c m : ℕ) (d : Stretch) → c < length stretches.now → is_within (slice_index_or stretches.now c d) m ≡ true
+        → is_within result m ≡ true }
 {
     let mut hull = Stretch {
         from: usize::MAX,

@@ -38,8 +38,10 @@ fn cond_word(cond: &Cond, logs: &Logs, frame: &Frame, at: usize) -> u64
 #[inline(always)]
 fn is_left(cond: &Cond, frame: &Frame, stretch: Stretch) -> bool
     requires { 1 ≤ length frame.now }
-    ensures left { result ≡ true → (logs : List Values) (m : ℕ) → left_along logs frame.now stretch m cond.now ≡ holds_along logs frame.now m cond.now }
-    ensures passed { result ≡ false → (logs : List Values) (m : ℕ) → left_along logs frame.now stretch m cond.now ≡ true }
+    ensures left { result ≡ true → (logs : List Values) (m : ℕ)
+        → left_along logs frame.now stretch m cond.now ≡ holds_along logs frame.now m cond.now }
+    ensures passed { result ≡ false → (logs : List Values) (m : ℕ)
+        → left_along logs frame.now stretch m cond.now ≡ true }
     ensures reader { result ≡ true → (cond.now.reader == length frame.now - 1) ≡ true }
 {
     let last = frame.len() - 1;
@@ -82,7 +84,8 @@ fn left_word(conds: &[Cond], logs: &Logs, frame: &Frame, stretch: Stretch, at: u
 
 /// At which of sixty-four iterations the conditions of a conjunction hold that has this stretch.
 fn all_word(conds: &[Cond], logs: &Logs, frame: &Frame, stretch: Stretch, at: usize) -> u64
-    requires frame { (n : ℕ) × (at + 64 ≤ n) × IsFrameOf logs.now.logs n frame.now × All (IsGood logs.now.logs) conds.now }
+    requires frame { (n : ℕ) × (at + 64 ≤ n) × IsFrameOf logs.now.logs n frame.now
+        × All (IsGood logs.now.logs) conds.now }
     requires stretch { Leaves (at + 64) logs.now.logs frame.now conds.now stretch }
     ensures { result ≡ mask_along (λ m. list_all (holds_along logs.now.logs frame.now m) conds.now) at 64 }
 {
@@ -101,7 +104,9 @@ fn some_word(conds: &Conds, logs: &Logs, frame: &Frame, stretches: &[Stretch], a
     requires frame { (n : ℕ) × (at + 64 ≤ n) × IsFrameOf logs.now.logs n frame.now }
     requires names { All (IsOfLogs logs.now.logs) conds.now.conds }
     requires each { length conds.now.ends ≤ length stretches.now }
-    requires stretches { (c : ℕ) (d : Stretch) → c < length conds.now.ends → Leaves (at + 64) logs.now.logs frame.now (conjunction_of conds.now.ends conds.now.conds c) (slice_index_or stretches.now c d) }
+    requires stretches { (c : ℕ) (d : Stretch) → c < length conds.now.ends
+        → Leaves (at + 64) logs.now.logs frame.now (conjunction_of conds.now.ends conds.now.conds c)
+        (slice_index_or stretches.now c d) }
     ensures { result ≡ mask_along (λ m. frame_holds conds.now logs.now.logs (with_last frame.now m)) at 64 }
 {
     let mut word = 0u64;
@@ -115,7 +120,8 @@ fn some_word(conds: &Conds, logs: &Logs, frame: &Frame, stretches: &[Stretch], a
 fn count_singly(conds: &Conds, logs: &Logs, frame: &Frame, from: usize, to: usize) -> u64
     requires frame { (n : ℕ) × (from ≤ to) × (to ≤ n) × IsFrameOf logs.now.logs n frame.now }
     requires names { All (IsOfLogs logs.now.logs) conds.now.conds }
-    ensures { result ≡ count_by (λ m. frame_holds conds.now logs.now.logs (with_last frame.now m)) (range_with_len from (to - from)) }
+    ensures { result ≡ count_by (λ m. frame_holds conds.now logs.now.logs (with_last frame.now m))
+        (range_with_len from (to - from)) }
 {
     let mut total = 0u64;
     let mut at = from;
@@ -138,8 +144,11 @@ fn count_between(
     requires frame { (n : ℕ) × (from ≤ to) × (to ≤ n) × IsFrameOf logs.now.logs n frame.now }
     requires names { All (IsOfLogs logs.now.logs) conds.now.conds }
     requires each { length conds.now.ends ≤ length stretches.now }
-    requires stretches { (c : ℕ) (d : Stretch) → c < length conds.now.ends → Leaves to logs.now.logs frame.now (conjunction_of conds.now.ends conds.now.conds c) (slice_index_or stretches.now c d) }
-    ensures { result ≡ count_by (λ m. frame_holds conds.now logs.now.logs (with_last frame.now m)) (range_with_len from (to - from)) }
+    requires stretches { (c : ℕ) (d : Stretch) → c < length conds.now.ends
+        → Leaves to logs.now.logs frame.now (conjunction_of conds.now.ends conds.now.conds c)
+        (slice_index_or stretches.now c d) }
+    ensures { result ≡ count_by (λ m. frame_holds conds.now logs.now.logs (with_last frame.now m))
+        (range_with_len from (to - from)) }
 {
     let mut total = 0u64;
     let mut at = from;
@@ -150,8 +159,8 @@ fn count_between(
     total + count_singly(conds, logs, frame, at, to)
 }
 
-/// The same of a row with these stretches: where nothing is left to test of the one conjunction, those of its stretch, and else those between the
-/// first and the last that stand in one.
+/// The same of a row with these stretches: where nothing is left to test of the one conjunction, those of its stretch,
+/// and else those between the first and the last that stand in one.
 pub(crate) fn count_within(
     conds: &Conds,
     logs: &Logs,
@@ -163,8 +172,11 @@ pub(crate) fn count_within(
     requires frame { (n : ℕ) × (from ≤ to) × (to ≤ n) × IsFrameOf logs.now.logs n frame.now }
     requires names { All (IsOfLogs logs.now.logs) conds.now.conds }
     requires each { length conds.now.ends ≤ length stretches.now }
-    requires stretches { (c : ℕ) (d : Stretch) → c < length conds.now.ends → Leaves to logs.now.logs frame.now (conjunction_of conds.now.ends conds.now.conds c) (slice_index_or stretches.now c d) }
-    ensures { result ≡ count_by (λ m. frame_holds conds.now logs.now.logs (with_last frame.now m)) (range_with_len from (to - from)) }
+    requires stretches { (c : ℕ) (d : Stretch) → c < length conds.now.ends
+        → Leaves to logs.now.logs frame.now (conjunction_of conds.now.ends conds.now.conds c)
+        (slice_index_or stretches.now c d) }
+    ensures { result ≡ count_by (λ m. frame_holds conds.now logs.now.logs (with_last frame.now m))
+        (range_with_len from (to - from)) }
 {
     if conds.conjunctions() == 1 && stretches[0].is_settled() {
         return stretches[0].count(from, to);
@@ -192,9 +204,12 @@ fn count_known(
     requires frame { (n : ℕ) × (from ≤ to) × (to ≤ n) × IsFrameOf logs.now.logs n frame.now }
     requires names { All (IsOfLogs logs.now.logs) conds.now.conds }
     requires each { length conds.now.ends ≤ length stretches.now }
-    requires stretches { (c : ℕ) (d : Stretch) → c < length conds.now.ends → Leaves to logs.now.logs frame.now (conjunction_of conds.now.ends conds.now.conds c) (slice_index_or stretches.now c d) }
+    requires stretches { (c : ℕ) (d : Stretch) → c < length conds.now.ends
+        → Leaves to logs.now.logs frame.now (conjunction_of conds.now.ends conds.now.conds c)
+        (slice_index_or stretches.now c d) }
     requires known { IsKnown conds.now logs.now.logs known.now }
-    ensures { result ≡ count_by (λ m. frame_holds conds.now logs.now.logs (with_last frame.now m)) (range_with_len from (to - from)) }
+    ensures { result ≡ count_by (λ m. frame_holds conds.now logs.now.logs (with_last frame.now m))
+        (range_with_len from (to - from)) }
 {
     let stretch = stretches[0];
     let first = stretch.from.max(from).div_ceil(64);
@@ -224,9 +239,12 @@ pub(crate) fn count_row(
     requires frame { (n : ℕ) × (from ≤ to) × (to ≤ n) × IsFrameOf logs.now.logs n frame.now }
     requires names { All (IsOfLogs logs.now.logs) conds.now.conds }
     requires each { length conds.now.ends ≤ length stretches.now }
-    requires stretches { (c : ℕ) (d : Stretch) → c < length conds.now.ends → Leaves to logs.now.logs frame.now (conjunction_of conds.now.ends conds.now.conds c) (slice_index_or stretches.now c d) }
+    requires stretches { (c : ℕ) (d : Stretch) → c < length conds.now.ends
+        → Leaves to logs.now.logs frame.now (conjunction_of conds.now.ends conds.now.conds c)
+        (slice_index_or stretches.now c d) }
     requires known { Tells conds.now logs.now.logs known.now }
-    ensures { result ≡ count_by (λ m. frame_holds conds.now logs.now.logs (with_last frame.now m)) (range_with_len from (to - from)) }
+    ensures { result ≡ count_by (λ m. frame_holds conds.now logs.now.logs (with_last frame.now m))
+        (range_with_len from (to - from)) }
 {
     if known.words == 0 {
         count_within(conds, logs, frame, stretches, from, to)
@@ -235,12 +253,13 @@ pub(crate) fn count_row(
     }
 }
 
-/// At how many iterations of the last thread from `from` up to and without `to`, with the frame's iterations of the others, the
-/// conditions of some conjunction hold.
+/// At how many iterations of the last thread from `from` up to and without `to`, with the frame's iterations of the
+/// others, the conditions of some conjunction hold.
 pub fn row_count(conds: &Conds, logs: &Logs, frame: &Frame, from: u32, to: u32) -> u64
     requires frame { (n : ℕ) × (from ≤ to) × (to ≤ n) × IsFrameOf logs.now.logs n frame.now }
     requires names { All (IsOfLogs logs.now.logs) conds.now.conds }
-    ensures { result ≡ count_by (λ m. conds_hold (value_at logs.now.logs) conds.now.ends conds.now.conds (with_last frame.now m)) (range_with_len from (to - from)) }
+    ensures { result ≡ count_by (λ m. conds_hold (value_at logs.now.logs) conds.now.ends conds.now.conds
+        (with_last frame.now m)) (range_with_len from (to - from)) }
 {
     let stretches = reaches(conds, logs, frame, to as usize);
     count_within(conds, logs, frame, &stretches, from as usize, to as usize)

@@ -5,11 +5,13 @@ ghost use Rattle.std.specs.List.Sorted.{IsNonDecreasing};
 ghost use Rattle.outcome_conv.specs.Conditions.{IsKind};
 ghost use Rattle.outcome_conv.specs.Conds.{kind_holds};
 ghost use Rattle.frame_count.specs.Row.{is_within, kind_test, mask_along, residue_fits};
+ghost use Rattle.perp_base.specs.declared.limits.TheConstants.{MOST_ITERATIONS};
 
 use outcome_conv::CondKind;
 
-/// The iterations from `from` up to and without `to`, and what is left to test at them: conditions on what the last thread logged of
-/// the others' stores, whose tests change from row to row, or of its own, whose tests are the same in each row.
+/// The iterations from `from` up to and without `to`, and what is left to test at them: conditions on what the last
+/// thread logged of the others' stores, whose tests change from row to row, or of its own, whose tests are the same in
+/// each row.
 #[derive(Clone, Copy)]
 pub(crate) struct Stretch {
     pub from: usize,
@@ -33,7 +35,7 @@ fn reached(value: u64, k: u64, a: u64) -> usize
 
 /// Which of sixty-four iterations are below `end`.
 fn below_word(end: usize, at: usize) -> u64
-    requires at { at + 64 ≤ 100000 }
+    requires at { at + 64 ≤ MOST_ITERATIONS }
     ensures { result ≡ mask_along (λ m. nat_lt m end) at 64 }
 {
     if end <= at {
@@ -133,11 +135,14 @@ impl Stretch {
         }
     }
 
-    /// Where a condition of this kind can hold of values that never fall, by a bound that stays. A residue is left to test.
+    /// Where a condition of this kind can hold of values that never fall, by a bound that stays. A residue is left to
+    /// test.
     pub(crate) fn of_values(kind: CondKind, values: &[u64], bound: u64) -> Stretch
         requires kind { IsKind kind }
         requires order { IsNonDecreasing values.now }
-        ensures within { (m : ℕ) → m < length values.now → kind_test kind (slice_index values.now m) bound ≡ (is_within result m && residue_fits kind (slice_index values.now m)) }
+        ensures within { (m : ℕ) → m < length values.now
+            → kind_test kind (slice_index values.now m) bound
+            ≡ (is_within result m && residue_fits kind (slice_index values.now m)) }
         ensures settled { result.row ≡ false → (v : ℕ) → residue_fits kind v ≡ true }
         ensures own { result.own ≡ false }
     {
@@ -229,7 +234,7 @@ impl Stretch {
 
     /// Which of sixty-four iterations are in it.
     pub(crate) fn word(self, at: usize) -> u64
-        requires at { at + 64 ≤ 100000 }
+        requires at { at + 64 ≤ MOST_ITERATIONS }
         ensures { result ≡ mask_along (is_within self) at 64 }
     {
         below_word(self.to, at) & (u64::MAX - below_word(self.from, at))

@@ -1,4 +1,4 @@
-// Worked counts over two logs, and random logs counted plainly.
+//! Worked counts over two logs, and random logs counted plainly.
 ghost use Rattle.std.specs.Prelude.{◌≡◌, ◌+◌, ◌*◌, ◌<◌, ◌≤◌, ℕ, [], ◌∷◌, length, All, IfOk};
 ghost use Rattle.outcome_conv.specs.Conditions.{IsKind};
 ghost use Rattle.outcome_conv.specs.declared.cond.Cond.{Cond};
@@ -15,13 +15,13 @@ use std::alloc::Global;
 use std::test::Fail;
 use std::thread::Threads;
 
-// The value is from before the other thread's store.
+/// The value is from before the other thread's store.
 const ZERO: CondKind = CondKind::Below { k: 1 };
 
-// The value is that of the other thread's store.
+/// The value is that of the other thread's store.
 const ONE: CondKind = CondKind::Exact { k: 1, a: 1 };
 
-// What a thread of store buffering asks of the other's location.
+/// What a thread of store buffering asks of the other's location.
 fn reads(reader: u32, kind: CondKind) -> Cond
     requires { reader < 2 }
     ensures kind { result.kind ≡ kind }
@@ -36,7 +36,7 @@ fn reads(reader: u32, kind: CondKind) -> Cond
     }
 }
 
-// A log of one column with these values.
+/// A log of one column with these values.
 fn log(alloc: Global, values: &[u64]) -> Result<Log, NoMemory>
     requires { length values.now ≤ 1000 }
     ensures { IfOk result (λ log. (log.columns ≡ 1) × (length log.values ≡ length values.now)) }
@@ -84,7 +84,7 @@ fn counted<R: Threads + Sync>(
     }
 }
 
-// The frame of the second thread's first iteration beside this one of the first thread.
+/// The frame of the second thread's first iteration beside this one of the first thread.
 fn pair(first: u32) -> Frame
     ensures { result ≡ first ∷ 0 ∷ [] }
 {
@@ -94,7 +94,7 @@ fn pair(first: u32) -> Frame
     frame
 }
 
-// How many iterations of the second thread pass beside this one of the first.
+/// How many iterations of the second thread pass beside this one of the first.
 fn row(conds: &Conds, logs: &Logs, n: u32, first: u32, from: u32, to: u32) -> u64
     requires n { n ≤ 1000 }
     requires first { first < n }
@@ -106,7 +106,7 @@ fn row(conds: &Conds, logs: &Logs, n: u32, first: u32, from: u32, to: u32) -> u6
     row_count(conds, logs, &frame, from, to)
 }
 
-// Whether the frame of both threads' first iterations passes.
+/// Whether the frame of both threads' first iterations passes.
 fn passes_first(conds: &Conds, logs: &Logs, n: u32) -> bool
     requires n { (1 ≤ n) × (n ≤ 1000) }
     requires logs { HasTwo n 1 logs.now.logs }
@@ -130,7 +130,7 @@ fn frames_up_to_the_limit_have_numbers(rt: HostRuntime) -> Result<(), Fail> {
     Ok(())
 }
 
-// Both threads read from before the other's store.
+/// Both threads read from before the other's store.
 fn both_zero(alloc: Global) -> Result<Conds, NoMemory>
     ensures { IfOk result (λ c. All (IsOfTwo 1) c.conds) }
 {
@@ -138,7 +138,7 @@ fn both_zero(alloc: Global) -> Result<Conds, NoMemory>
     Ok(Conds::new(both, vec![in alloc; 2]?))
 }
 
-// One thread or the other reads the other's store.
+/// One thread or the other reads the other's store.
 fn either_one(alloc: Global) -> Result<Conds, NoMemory>
     ensures { IfOk result (λ c. All (IsOfTwo 1) c.conds) }
 {
@@ -146,7 +146,7 @@ fn either_one(alloc: Global) -> Result<Conds, NoMemory>
     Ok(Conds::new(either, vec![in alloc; 1, 2]?))
 }
 
-// Both read from before the other's store, or the first reads the other's store.
+/// Both read from before the other's store, or the first reads the other's store.
 fn both_zero_or_one(alloc: Global) -> Result<Conds, NoMemory>
     ensures { IfOk result (λ c. All (IsOfTwo 1) c.conds) }
 {
@@ -154,7 +154,7 @@ fn both_zero_or_one(alloc: Global) -> Result<Conds, NoMemory>
     Ok(Conds::new(three, vec![in alloc; 2, 3]?))
 }
 
-// Both read from before the other's store, told twice.
+/// Both read from before the other's store, told twice.
 fn both_zero_twice(alloc: Global) -> Result<Conds, NoMemory>
     ensures { IfOk result (λ c. All (IsOfTwo 1) c.conds) }
 {
@@ -164,7 +164,7 @@ fn both_zero_twice(alloc: Global) -> Result<Conds, NoMemory>
     Ok(Conds::new(four, vec![in alloc; 2, 4]?))
 }
 
-// The logs of two threads with a column each.
+/// The logs of two threads with a column each.
 fn logs_of(alloc: Global, first: &[u64], second: &[u64], n: u32) -> Result<Logs, NoMemory>
     requires n { n ≤ 1000 }
     requires long { (length first.now ≡ n) × (length second.now ≡ n) }
@@ -173,7 +173,7 @@ fn logs_of(alloc: Global, first: &[u64], second: &[u64], n: u32) -> Result<Logs,
     two_logs(alloc, log(alloc, first)?, log(alloc, second)?, n, 1)
 }
 
-// Both threads read nothing of the other in eight iterations, then its first and its second store.
+/// Both threads read nothing of the other in eight iterations, then its first and its second store.
 #[test]
 fn ten_iterations_of_store_buffering(rt: HostRuntime) -> Result<(), Fail> {
     let values = [0, 0, 0, 0, 0, 0, 0, 0, 1, 2];
@@ -215,7 +215,7 @@ fn one_iteration_by_either_of_two_conjunctions(rt: HostRuntime) -> Result<(), Fa
     Ok(())
 }
 
-// A value of iteration `row`: any small one, or one that is not below those of the iterations before.
+/// A value of iteration `row`: any small one, or one that is not below those of the iterations before.
 fn random_value(words: &mut Xoshiro256PlusPlus, row: u32, rising: bool) -> u64 {
     if rising {
         u64::from(row) * 2 + words.next_u64() % 3
@@ -264,7 +264,7 @@ fn random_cond(words: &mut Xoshiro256PlusPlus, columns: usize) -> Cond
     }
 }
 
-// The value of a column in iteration `i`; 0 where there is none.
+/// The value of a column in iteration `i`; 0 where there is none.
 fn value_in(log: &Log, column: usize, i: usize) -> u64 {
     if column < log.columns() {
         log.column(column).get(i).copied().unwrap_or(0)
@@ -273,7 +273,7 @@ fn value_in(log: &Log, column: usize, i: usize) -> u64 {
     }
 }
 
-// Whether a condition passes, told anew.
+/// Whether a condition passes, told anew.
 fn passes(cond: &Cond, logs: &Logs, frame: [u32; 2], columns: usize) -> bool
     requires kind { IsKind cond.now.kind }
     requires two { IsOfTwo columns cond.now × (columns ≤ 16) × (length logs.now.logs ≡ 2) }
@@ -289,7 +289,7 @@ fn passes(cond: &Cond, logs: &Logs, frame: [u32; 2], columns: usize) -> bool
     }
 }
 
-// Two conjunctions of random conditions over two logs.
+/// Two conjunctions of random conditions over two logs.
 fn random_conds(
     alloc: Global,
     words: &mut Xoshiro256PlusPlus,
@@ -304,7 +304,7 @@ fn random_conds(
     Ok(Conds::new(vec![in alloc; a, b, c]?, vec![in alloc; 2, 3]?))
 }
 
-// Whether each condition of a conjunction passes.
+/// Whether each condition of a conjunction passes.
 fn all_pass(conds: &[Cond], logs: &Logs, frame: [u32; 2], columns: usize) -> bool
     requires kinds { All (λ (c : Cond). IsKind c.kind) conds.now }
     requires two { All (IsOfTwo columns) conds.now × (columns ≤ 16) × (length logs.now.logs ≡ 2) }
@@ -318,7 +318,7 @@ fn all_pass(conds: &[Cond], logs: &Logs, frame: [u32; 2], columns: usize) -> boo
     true
 }
 
-// Whether one conjunction or another passes.
+/// Whether one conjunction or another passes.
 fn some_pass(conds: &Conds, logs: &Logs, i: u32, j: u32, columns: usize) -> bool
     requires two { All (IsOfTwo columns) conds.now.conds × (columns ≤ 16) × (length logs.now.logs ≡ 2) }
     requires frame { (i < 1000) × (j < 1000) }
@@ -331,7 +331,7 @@ fn some_pass(conds: &Conds, logs: &Logs, i: u32, j: u32, columns: usize) -> bool
     false
 }
 
-// How many iterations of the second thread pass beside this one of the first.
+/// How many iterations of the second thread pass beside this one of the first.
 fn plain_row(conds: &Conds, logs: &Logs, n: u32, i: u32, columns: usize) -> u64
     requires two { All (IsOfTwo columns) conds.now.conds × (columns ≤ 16) × (length logs.now.logs ≡ 2) }
     requires frame { (n ≤ 1000) × (i < 1000) }
@@ -345,7 +345,7 @@ fn plain_row(conds: &Conds, logs: &Logs, n: u32, i: u32, columns: usize) -> u64
     total
 }
 
-// How many frames pass, one by one.
+/// How many frames pass, one by one.
 fn plain_count(conds: &Conds, logs: &Logs, n: u32, columns: usize) -> u64
     requires two { All (IsOfTwo columns) conds.now.conds × (columns ≤ 16) × (length logs.now.logs ≡ 2) }
     requires n { n ≤ 1000 }

@@ -3,3 +3,4 @@ pub mod Finds
 pub mod Groups
 pub mod OfRuns
 pub mod Ordered
+pub mod Rounding

@@ -20,11 +20,13 @@ runs_can_be_picked_lem test n run logs kinds h r few z a =
 
 pub picks_are_those_of_runs_lem : PicksAreThoseOfRuns
 picks_are_those_of_runs_lem test n run logs kinds c i h r early z a =
-    ap (λ values. picked_frame (length test.bodies) (conjunction_of test.ends (map (link_by values n) (conds_of test kinds)) c) i) (logs_give_the_values_lem test n run logs r a)
+    ap (λ values. picked_frame (length test.bodies) (conjunction_of test.ends
+    (map (link_by values n) (conds_of test kinds)) c) i) (logs_give_the_values_lem test n run logs r a)
     ∙ picks_agree_lem test n run kinds c i h r early z
 
 pub listed_are_hits_of_runs_lem : ListedAreHitsOfRuns
 listed_are_hits_of_runs_lem test n run logs kinds h r z a =
-    let same = ap (λ values. picked_hits_by values (length test.bodies) n test.ends (conds_of test kinds)) (logs_give_the_values_lem test n run logs r a) ∙ hits_agree_lem test n run kinds h r z in
+    let same = ap (λ values. picked_hits_by values (length test.bodies) n test.ends (conds_of test kinds))
+    (logs_give_the_values_lem test n run logs r a) ∙ hits_agree_lem test n run kinds h r z in
     let AllHits : List (List ℕ) → Type 0 = All (Contains (hits_of test kinds n run)) in
     (same, subst AllHits (sym same) (listed_are_hits_lem test n run kinds h r z))

@@ -1,7 +1,8 @@
--- The steps of the heuristic count, in the words of picks: what one condition does to a frame, what one iteration finds, and
--- which of that is new. This project's own.
+-- The steps of the heuristic count, in the words of picks: what one condition does to a frame, what one iteration
+-- finds, and which of that is new. This project's own.
 use Rattle.std.specs.Prelude.{ℕ, ◌≤◌, All, Bool, not, Option, None, Some, List, [], ◌∷◌, if◌then◌else◌, length, map, option_and_then, slice_index, slice_set, take}
 use Rattle.std.specs.List.{flat_map, list_all}
+use Rattle.perp_base.specs.declared.limits.TheConstants.{MOST_ITERATIONS}
 use Rattle.x86_subset.specs.Conjunctions.{conjunction_of, conjunctions_of}
 use Rattle.load_log.specs.Values.{AreWhole, Values, value_at}
 use Rattle.outcome_conv.specs.declared.cond.Cond.{Cond}
@@ -13,7 +14,7 @@ use Rattle.frame_count.specs.Count.{IsOfLogs}
 
 -- logs of one to eight threads that are whole for n iterations, and conditions that name their threads and columns
 pub record CanPick (c : Conditions) (logs : List Values) (n : ℕ) : Type 0 where
-  pub few : n ≤ 100000
+  pub few : n ≤ MOST_ITERATIONS
   pub thread : 1 ≤ length logs
   pub threads : length logs ≤ 8
   pub whole : AreWhole n logs
@@ -23,7 +24,8 @@ pub record CanPick (c : Conditions) (logs : List Values) (n : ℕ) : Type 0 wher
 abbrev pub frame_along : Logged → ℕ → List Cond → List ℕ → Option (List ℕ)
 frame_along values n [] frame = Some frame
 frame_along values n (c ∷ order) frame =
-    option_and_then (λ m. frame_along values n order (slice_set frame c.writer m)) (choice_of values n c (slice_index frame c.reader))
+    option_and_then (λ m. frame_along values n order (slice_set frame c.writer m))
+    (choice_of values n c (slice_index frame c.reader))
 
 -- a frame that passes a test
 abbrev pub only_if : (List ℕ → Bool) → Option (List ℕ) → Option (List ℕ)
@@ -43,8 +45,10 @@ links_of conds logs n c = conjunction_of conds.ends (map (link_by (value_at logs
 
 -- whether a frame is a find of one of the first c conjunctions
 abbrev pub is_known : Conditions → List Values → ℕ → ℕ → List ℕ → Bool
-is_known conds logs n c frame = is_among (finds_before (length logs) n conds.ends (map (link_by (value_at logs) n) conds.conds) c) frame
+is_known conds logs n c frame =
+    is_among (finds_before (length logs) n conds.ends (map (link_by (value_at logs) n) conds.conds) c) frame
 
 -- the find of conjunction c and iteration i, if it is none of an earlier conjunction
 abbrev pub new_find_of : Conditions → List Values → ℕ → ℕ → ℕ → Option (List ℕ)
-new_find_of conds logs n c i = only_if (λ frame. not (is_known conds logs n c frame)) (find_of (length logs) (links_of conds logs n c) i)
+new_find_of conds logs n c i =
+    only_if (λ frame. not (is_known conds logs n c frame)) (find_of (length logs) (links_of conds logs n c) i)

@@ -37,7 +37,8 @@ fn find(plan: &Plan, conds: &Conds, logs: &Logs, n: u32, c: u32, iteration: u32)
     }
 }
 
-/// Whether a frame is a find of a conjunction. If it is one, it is that of its own base's iteration, so one look is enough.
+/// Whether a frame is a find of a conjunction. If it is one, it is that of its own base's iteration, so one look is
+/// enough.
 fn is_find(plan: &Plan, conds: &Conds, logs: &Logs, n: u32, c: u32, frame: &Frame) -> bool
     requires logs { CanPick conds.now logs.now.logs n }
     requires plan { plan.now ≡ plan_of (length logs.now.logs) conds.now }
@@ -110,13 +111,15 @@ fn new_finds<R: Threads + Sync>(
     requires logs { CanPick conds.now logs.now.logs n }
     requires plan { plan.now ≡ plan_of (length logs.now.logs) conds.now }
     requires conjunction { c < length conds.now.ends }
-    ensures { IfOk result (λ finds. finds.items ≡ filter_map (new_find_of conds.now logs.now.logs n c) (range_with_len 0 n)) }
+    ensures { IfOk result (λ finds. finds.items ≡ filter_map (new_find_of conds.now logs.now.logs n c)
+        (range_with_len 0 n)) }
 {
     let finds = (0..n)
         .into_par_iter()
         .filter_map(
             |i: u32| -> Option<Frame>
-                requires { CanPick conds.now logs.now.logs n × (plan.now ≡ plan_of (length logs.now.logs) conds.now) × (c < length conds.now.ends) × (i < n) }
+                requires { CanPick conds.now logs.now.logs n × (plan.now ≡ plan_of (length logs.now.logs) conds.now)
+                    × (c < length conds.now.ends) × (i < n) }
                 ensures { result ≡ new_find_of conds.entry.now logs.entry.now.logs n c i }
             { new_find(plan, conds, logs, n, c, i) },
         )
@@ -124,8 +127,8 @@ fn new_finds<R: Threads + Sync>(
     Ok(finds)
 }
 
-/// The picked frames of `n` iterations at which a conjunction holds: those of the first conjunction in the order of the base's
-/// iterations, then those of the second, and so on, each frame where it is found first.
+/// The picked frames of `n` iterations at which a conjunction holds: those of the first conjunction in the order of the
+/// base's iterations, then those of the second, and so on, each frame where it is found first.
 pub fn hits<R: Threads + Sync>(
     rt: &R,
     alloc: Global,

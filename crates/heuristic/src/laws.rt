@@ -1,7 +1,8 @@
 //! What is picked and listed over the logs of a run.
 ghost use Rattle.heuristic.specs.RunPicks.{ListedAreHitsOfRuns, PicksAreThoseOfRuns, RunsCanBePicked};
 
-/// The logs of a run meet what `pick` and `hits` ask of logs, and the conditions of its test name the test's threads alone.
+/// The logs of a run meet what `pick` and `hits` ask of logs, and the conditions of its test name the test's threads
+/// alone.
 pub fn runs_can_be_picked()
     ensures { RunsCanBePicked }
 {}

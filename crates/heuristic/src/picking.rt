@@ -10,16 +10,18 @@ ghost use Rattle.outcome_conv.specs.Picks.{link_by, picked_frame};
 ghost use Rattle.frame_count.specs.Count.{IsFrameOf, IsGood};
 ghost use Rattle.heuristic.specs.Plan.{plan_of};
 ghost use Rattle.heuristic.specs.Steps.{CanPick, frame_along};
+ghost use Rattle.perp_base.specs.declared.limits.TheConstants.{MOST_ITERATIONS};
 
 use crate::plan::Plan;
 use load_log::Logs;
 use outcome_conv::{Cond, CondKind, Conds};
 use perp_base::Frame;
 
-/// The iteration below `n` that a condition of this kind chooses by a logged value: the one in which the named store writes the
-/// value, or the least `m` with `value < k * m + 1`.
+/// The iteration below `n` that a condition of this kind chooses by a logged value: the one in which the named store
+/// writes the value, or the least `m` with `value < k * m + 1`.
+#[tactic(auto, using(crate::proofs::Rounding::rounded_up))]
 fn choose(kind: CondKind, n: u32, value: u64) -> Option<u32>
-    requires few { n ≤ 100000 }
+    requires few { n ≤ MOST_ITERATIONS }
     requires kind { IsKind kind }
     ensures value { result ≡ choice_by n kind value }
     ensures below { IfSome result (λ m. m < n) }
@@ -28,11 +30,7 @@ fn choose(kind: CondKind, n: u32, value: u64) -> Option<u32>
         CondKind::AtLeast { k, a } => owner(k, a, n, value),
         CondKind::Exact { k, a } => owner(k, a, n, value),
         CondKind::Below { k } => {
-            // far above each value that is written, so that the sum below fits
-            if value > 1000000000000 {
-                return None;
-            }
-            let m = (value + k - 1) / k;
+            let m = value.div_ceil(k);
             if m < n as u64 { Some(m as u32) } else { None }
         }
     }
@@ -105,9 +103,9 @@ fn along(order: &[Cond], logs: &Logs, n: u32, frame: Frame) -> Option<Frame>
     Some(frame)
 }
 
-/// The picked frame of a conjunction and an iteration below `n`: its base thread takes the iteration, each condition in the plan's
-/// order chooses its writer's, and a thread that is never chosen takes the given one too. None exactly where one of them finds no
-/// iteration below `n`.
+/// The picked frame of a conjunction and an iteration below `n`: its base thread takes the iteration, each condition in
+/// the plan's order chooses its writer's, and a thread that is never chosen takes the given one too. None exactly where
+/// one of them finds no iteration below `n`.
 pub fn pick(
     plan: &Plan,
     conds: &Conds,

@@ -11,7 +11,8 @@ use perp_base::NoMemory;
 use std::alloc::Global;
 use std::marker::Model;
 
-/// The base thread of a conjunction, and its conditions that choose, in order. Only a conjunction without conditions has no base.
+/// The base thread of a conjunction, and its conditions that choose, in order. Only a conjunction without conditions
+/// has no base.
 #[derive(Drop)]
 pub(crate) struct Choices {
     base: Option<usize>,

@@ -1,4 +1,4 @@
-// Worked picks and listed hits over two logs.
+//! Worked picks and listed hits over two logs.
 ghost use Rattle.std.specs.Prelude.{◌≡◌, ◌-◌, ◌*◌, ◌<◌, ◌≤◌, [], ◌∷◌, All, IfOk, length};
 ghost use Rattle.frame_count.specs.Count.{IsOfLogs};
 
@@ -10,16 +10,16 @@ use std::alloc::Global;
 use std::test::Fail;
 use std::thread::Threads;
 
-// The value is from before the other thread's store.
+/// The value is from before the other thread's store.
 const ZERO: CondKind = CondKind::Below { k: 1 };
 
-// The value is that of the other thread's store, or of a later one of its iterations.
+/// The value is that of the other thread's store, or of a later one of its iterations.
 const ONE: CondKind = CondKind::AtLeast { k: 1, a: 1 };
 
-// The value is that of the other thread's store.
+/// The value is that of the other thread's store.
 const JUST_ONE: CondKind = CondKind::Exact { k: 1, a: 1 };
 
-// What one of two threads reads in a column, of the other's stores.
+/// What one of two threads reads in a column, of the other's stores.
 fn reads(reader: u32, column: u32, kind: CondKind) -> Cond
     requires { reader < 2 }
     ensures { result ≡ record { reader = reader; column = column; loc = 0; writer = 1 - reader; kind = kind } }
@@ -33,7 +33,7 @@ fn reads(reader: u32, column: u32, kind: CondKind) -> Cond
     }
 }
 
-// A log of `n` iterations.
+/// A log of `n` iterations.
 fn log(alloc: Global, columns: usize, n: u32, values: &[u64]) -> Result<Log, NoMemory>
     requires few { columns ≤ 16 }
     requires whole { length values.now ≡ columns * n }
@@ -46,7 +46,7 @@ fn log(alloc: Global, columns: usize, n: u32, values: &[u64]) -> Result<Log, NoM
     Ok(log)
 }
 
-// What is picked of the first conjunction, by iteration, and what is listed.
+/// What is picked of the first conjunction, by iteration, and what is listed.
 #[derive(Drop)]
 struct Outcome {
     picks: Vec<Option<Frame>>,

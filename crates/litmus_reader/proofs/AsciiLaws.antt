@@ -1,13 +1,14 @@
 -- A text that is read as a test names it and its locations in ASCII.
 use Rattle.std.proofs.Common.{◌≡◌, ℕ, zero, suc, ◌+◌, ◌<◌, Bool, true, false, ◌&&◌, cond, List, [], ◌∷◌, take, drop, Option, Some, None, Result, Ok, Err, refl, subst, arith}
 use Rattle.std.specs.Prelude.{◌==◌, ◌^◌, All, IfOk, slice_index, nat_lt, is_none}
+use Rattle.std.specs.Char.{is_ascii_digit, is_ascii_graphic}
 use Rattle.std.specs.Str.{IsAscii}
 use Rattle.std.specs.List.{list_all, prefix_len}
 use Rattle.std.proofs.Math.Numerals.{one-add}
 use Rattle.std.proofs.lemmas.Bool.{and_parts, false≢true}
 use Rattle.std.proofs.lemmas.Bool.Decides.{nat_tests}
 use Rattle.std.proofs.lemmas.List.Elements.{All-nil, All-push}
-use Rattle.x86_subset.specs.declared.cell.InstrError.TheVariants.{Number as TooLarge}
+use Rattle.x86_subset.specs.declared.cell.InstrError.TheVariants.{TooLarge}
 use Rattle.x86_subset.specs.declared.form.Slot.{Slot}
 use Rattle.x86_subset.specs.declared.form.Slot.TheVariants.{Mark, Maybe, Word, Location, Register, Any, Small, Thread}
 use Rattle.x86_subset.specs.declared.instr.Reg.{Reg}
@@ -15,14 +16,13 @@ use Rattle.x86_subset.specs.declared.token.Cut.{Cut}
 use Rattle.x86_subset.specs.declared.token.TokenKind.{TokenKind}
 use Rattle.x86_subset.specs.declared.token.TokenKind.TheVariants.{Name, Number, Left, Right, LeftSquare, RightSquare, LeftBrace, RightBrace, Semi, Bar, Comma, Colon, Equal, Dollar, Tilde, Both, Either, Other}
 use Rattle.x86_subset.specs.Test.{Code, LitmusTest}
-use Rattle.x86_subset.specs.Token.{is_blank, is_digit, is_letter, is_head, is_tail, is_pair, sign, close_end, nothing, token, comment_cut, pair_cut, cut_at, Spot, after_byte, Lexeme, put, lex}
+use Rattle.x86_subset.specs.Token.{is_blank, is_head, is_tail, is_pair, sign, close_end, nothing, token, comment_cut, pair_cut, cut_at, Spot, after_byte, Lexeme, put, lex, after_bytes, start}
 use Rattle.x86_subset.specs.Form.{kind_code, is, is_keyword, register_of, value, Found, nothing_found, with_register, fill, may_miss, fit, Row, whole, meaning}
 use Rattle.x86_subset.specs.Cell.{Form, Blank, Fence, StoreNumber, StoreRegister, Load, Constant, Exchange, Threads, cell_rows, is_small, judged, parse, place_in, having_by, having, code_after, locations_after}
 use Rattle.litmus_reader.specs.declared.kind.LitmusKind.TheVariants.{NotX86}
 use Rattle.litmus_reader.specs.Answer.{Accepted, refuse}
-use Rattle.litmus_reader.specs.Front.{words, is_printed, is_x86, name_of, Rest, named_or_not, rest_at, line_in, behind_line, first_line}
-use Rattle.x86_subset.specs.Token.{after_bytes, start}
-use Rattle.litmus_reader.specs.Rows.{body_of, threads_after}
+use Rattle.litmus_reader.specs.Front.{words, is_x86, name_of, Rest, named_or_not, rest_at, line_in, behind_line, first_line}
+use Rattle.litmus_reader.specs.Rows.{column_code, threads_after}
 use Rattle.litmus_reader.specs.Reading.{sections_at, read_text}
 use Rattle.litmus_reader.specs.declared.kind.LitmusError.{LitmusError}
 use Rattle.litmus_reader.specs.Answered.{IfAnswered, HasAsciiNames, NamesAreAscii}
@@ -61,14 +61,14 @@ ascii_prefix p h (b ∷ bs) = go (ascii_prefix p h bs) (p b) refl
     go k false e = ascii_nil
 
 head_below : (b : ℕ) → is_head b ≡ true → b < 128
-unfolding is_head is_letter
+unfolding is_head
 head_below b h = grind (arith, nat_tests)
 
 tail_below : (b : ℕ) → is_tail b ≡ true → b < 128
-unfolding is_tail is_head is_letter is_digit
+unfolding is_tail is_head
 tail_below b h = grind (arith, nat_tests)
 
-printed_below : (b : ℕ) → is_printed b ≡ true → b < 128
+printed_below : (b : ℕ) → is_ascii_graphic b ≡ true → b < 128
 printed_below b h = grind (arith, nat_tests)
 
 -- ---- tokens
@@ -96,9 +96,12 @@ other_kind false k l h m = m
 sign_is_no_name : (b : ℕ) → (kind_code (sign b) == 0) ≡ false
 unfolding sign
 sign_is_no_name b =
-    other_kind (b == 40) Left _ refl (other_kind (b == 41) Right _ refl (other_kind (b == 91) LeftSquare _ refl (other_kind (b == 93) RightSquare _ refl (
-    other_kind (b == 123) LeftBrace _ refl (other_kind (b == 125) RightBrace _ refl (other_kind (b == 59) Semi _ refl (other_kind (b == 124) Bar _ refl (
-    other_kind (b == 44) Comma _ refl (other_kind (b == 58) Colon _ refl (other_kind (b == 61) Equal _ refl (other_kind (b == 36) Dollar _ refl (
+    other_kind (b == 40) Left _ refl (other_kind (b == 41) Right _ refl
+    (other_kind (b == 91) LeftSquare _ refl (other_kind (b == 93) RightSquare _ refl (
+    other_kind (b == 123) LeftBrace _ refl (other_kind (b == 125) RightBrace _ refl
+    (other_kind (b == 59) Semi _ refl (other_kind (b == 124) Bar _ refl (
+    other_kind (b == 44) Comma _ refl (other_kind (b == 58) Colon _ refl
+    (other_kind (b == 61) Equal _ refl (other_kind (b == 36) Dollar _ refl (
     other_kind (b == 126) Tilde Other refl refl))))))))))))
 
 pair_plain : (b : ℕ) (bs : List ℕ) → IsPlainCut b bs (pair_cut b bs)
@@ -113,10 +116,11 @@ pair_plain b bs = go (b == 40) (close_end (drop 1 bs)) (b == 47)
 
 cut_plain : (b : ℕ) (bs : List ℕ) → IsPlainCut b bs (cut_at b bs)
 unfolding cut_at
-cut_plain b bs = go (is_blank b) (is_head b) refl (is_digit b) (is_pair b bs)
+cut_plain b bs = go (is_blank b) (is_head b) refl (is_ascii_digit b) (is_pair b bs)
   where
     go : (v w : Bool) → is_head b ≡ w → (x y : Bool)
-        → IsPlainCut b bs (cond v (nothing 0) (cond w (token Name (prefix_len is_tail bs)) (cond x (token Number (prefix_len is_digit bs)) (cond y (pair_cut b bs) (token (sign b) 0)))))
+        → IsPlainCut b bs (cond v (nothing 0) (cond w (token Name (prefix_len is_tail bs))
+        (cond x (token Number (prefix_len is_ascii_digit bs)) (cond y (pair_cut b bs) (token (sign b) 0)))))
     go true w e x y = tt
     go false true e x y =
         λ k. ascii_cons b (take (prefix_len is_tail bs) bs) (head_below b e) (ascii_prefix is_tail tail_below bs)
@@ -134,7 +138,9 @@ unfolding lex
 lex_plain zero at [] = tt
 lex_plain (suc skip) at [] = tt
 lex_plain (suc skip) at (b ∷ bs) = lex_plain skip (after_byte at b) bs
-lex_plain zero at (b ∷ bs) = put_plain (cut_at b bs).kind (b ∷ take (cut_at b bs).more bs) at _ (cut_plain b bs) (lex_plain (cut_at b bs).more (after_byte at b) bs)
+lex_plain zero at (b ∷ bs) =
+    put_plain (cut_at b bs).kind (b ∷ take (cut_at b bs).more bs) at _ (cut_plain b bs)
+    (lex_plain (cut_at b bs).more (after_byte at b) bs)
 
 -- ---- forms
 
@@ -157,7 +163,8 @@ fill_plain (Maybe kind) t f g e h k = kept (is kind t) f g e k
 fill_plain (Word word) t f g e h k = kept (is_keyword word t) f g e k
 fill_plain Location t f g e h k = go (is Name t) refl (is_none (register_of t.spelled)) e
   where
-    go : (v : Bool) → is Name t ≡ v → (w : Bool) → cond (v && w) (Some (record f { location = t.spelled })) None ≡ Some g → IsAscii g.location
+    go : (v : Bool) → is Name t ≡ v → (w : Bool)
+        → cond (v && w) (Some (record f { location = t.spelled })) None ≡ Some g → IsAscii g.location
     go true m w e = kept w (record f { location = t.spelled }) g e (h m)
     go false m w e = absurd cc
 fill_plain Register t f g e h k = go (is Name t) (register_of t.spelled) e
@@ -189,7 +196,9 @@ fit_plain (s ∷ ss) [] f x e h k = go (λ m. fit_plain ss [] f x m tt k) (may_m
         → IsAscii x.0.location
     go more true e = more e
     go more false e = absurd cc
-fit_plain (s ∷ ss) (t ∷ ts) f x e h k = go (λ g m n. fit_plain ss ts g x m h.1 (fill_plain s t f g n h.0 k)) (λ m. fit_plain ss (t ∷ ts) f x m h k) (fill s t f) refl (may_miss s) e
+fit_plain (s ∷ ss) (t ∷ ts) f x e h k =
+    go (λ g m n. fit_plain ss ts g x m h.1 (fill_plain s t f g n h.0 k)) (λ m. fit_plain ss (t ∷ ts) f x m h k)
+    (fill s t f) refl (may_miss s) e
   where
     go : ((g : Found) → fit ss ts g ≡ Ok x → fill s t f ≡ Some g → IsAscii x.0.location)
         → (fit ss (t ∷ ts) f ≡ Ok x → IsAscii x.0.location)
@@ -203,7 +212,7 @@ abbrev AllMean : {A : Type 0} → (A → Type 0) → List (Row A) → Type 0
 AllMean P [] = Unit {0}
 AllMean P (row ∷ rows) = ((f : Found) → IsAscii f.location → P (row.means f)) × AllMean P rows
 
--- what tokens mean by a row or by those behind it
+-- what tokens mean by a row or by those after it
 abbrev meant : {A : Type 0} → Row A → List (Row A) → List Lexeme → Option Found → Option A
 meant row rows ts o = elim o [ Some found ↦ Some (row.means found) | None ↦ meaning rows ts ]
 
@@ -269,7 +278,7 @@ AreAscii s = All IsAscii s.locations
 
 acted_ascii : (i : ℕ) (s : Threads) (cell : List Lexeme) (form : Form) (code : Code) → ArePlain cell
     → parse cell ≡ Ok form
-    → code_after s.locations form (body_of i s) ≡ Some code → AreAscii s → AreAscii (threads_after i form s code)
+    → code_after s.locations form (column_code i s) ≡ Some code → AreAscii s → AreAscii (threads_after i form s code)
 acted_ascii i s cell form code p m k h = locations_ascii s.locations form h (parse_plain cell form p m)
 
 -- ---- the whole test
@@ -277,10 +286,10 @@ acted_ascii i s cell form code p m k h = locations_ascii s.locations form h (par
 name_ascii : (ws : List (List ℕ)) (name : List ℕ) → name_of ws ≡ Some name → IsAscii name
 name_ascii [] name e = absurd cc
 name_ascii (w ∷ []) name e = absurd cc
-name_ascii (w ∷ n ∷ []) name e = go (list_all is_printed n) refl e
+name_ascii (w ∷ n ∷ []) name e = go (list_all is_ascii_graphic n) refl e
   where
-    go : (v : Bool) → list_all is_printed n ≡ v → cond v (Some n) None ≡ Some name → IsAscii name
-    go true k e = subst IsAscii (some_is n name e) (ascii_all is_printed printed_below n k)
+    go : (v : Bool) → list_all is_ascii_graphic n ≡ v → cond v (Some n) None ≡ Some name → IsAscii name
+    go true k e = subst IsAscii (some_is n name e) (ascii_all is_ascii_graphic printed_below n k)
     go false k e = absurd cc
 name_ascii (w ∷ n ∷ m ∷ ws) name e = absurd cc
 
@@ -289,15 +298,22 @@ unfolding first_line
 first_ascii text x e = go (is_x86 (words (line_in text))) (name_of (words (line_in text))) refl e
   where
     go : (v : Bool) (o : Option (List ℕ)) → name_of (words (line_in text)) ≡ o
-        → cond v (named_or_not o (rest_at (after_bytes start (line_in text)) (behind_line text))) (refuse NotX86 1) ≡ Ok x
+        → cond v (named_or_not o (rest_at (after_bytes start (line_in text)) (behind_line text))) (refuse NotX86 1)
+        ≡ Ok x
         → IsAscii x.0
     go true None k e = absurd cc
-    go true (Some name) k e = subst (λ (x : List ℕ × Rest). IsAscii x.0) (ok_is (name, rest_at (after_bytes start (line_in text)) (behind_line text)) x e) (name_ascii (words (line_in text)) name k)
+    go true (Some name) k e =
+        subst (λ (x : List ℕ × Rest). IsAscii x.0) (ok_is (
+          name,
+          rest_at (after_bytes start (line_in text)) (behind_line text),
+        ) x e)
+        (name_ascii (words (line_in text)) name k)
     go false o k e = absurd cc
 
 sections_ascii : (text : List ℕ) (test : LitmusTest) → sections_at text ≡ Ok test → HasAsciiNames test
 sections_ascii text test e =
-    let k = sections_keep IsPlain AreAscii (λ row. All-nil IsAscii) acted_ascii text test (λ at text. lex_plain 0 at text) e in
+    let k = sections_keep IsPlain AreAscii (λ row. All-nil IsAscii) acted_ascii text test
+    (λ at text. lex_plain 0 at text) e in
     subst HasAsciiNames k.kept.is (first_ascii text k.first k.is_first, k.kept.good)
 
 read_ascii : (text : List ℕ) (test : LitmusTest) → read_text text ≡ Accepted test → HasAsciiNames test

@@ -11,18 +11,25 @@ use Rattle.litmus_reader.specs.Expression.{all_read, with_atom, with_end}
 
 -- what was read before, and then this
 abbrev pub with_front : Joined → Result Joined Refusal → Result Joined Refusal
-with_front front r = r >>= λ j. Ok (record { atoms = front.atoms ++ j.atoms; ends = front.ends ++ map (λ n. length front.atoms + n) j.ends })
+with_front front r =
+    r >>= λ j. Ok (record {
+      atoms = front.atoms ++ j.atoms;
+      ends = front.ends ++ map (λ n. length front.atoms + n) j.ends;
+    })
 
 shifted : (k m : ℕ) → m ≡ suc k → (ends : List ℕ) → map (λ n. k + n) (map suc ends) ≡ map (λ n. m + n) ends
 shifted k m e [] = refl
-shifted k m e (n ∷ ns) = let h : k + suc n ≡ m + n = omega (arith, e) in ap (λ x. x ∷ map (λ n. k + n) (map suc ns)) h ∙ ap (λ l. (m + n) ∷ l) (shifted k m e ns)
+shifted k m e (n ∷ ns) =
+    let h : k + suc n ≡ m + n = omega (arith, e) in
+    ap (λ x. x ∷ map (λ n. k + n) (map suc ns)) h ∙ ap (λ l. (m + n) ∷ l) (shifted k m e ns)
 
 abbrev pub joined : List Atom → List ℕ → Joined
 joined atoms ends = record { atoms = atoms; ends = ends }
 
 none_before : (ns : List ℕ) → map (λ n. 0 + n) ns ≡ ns
 none_before [] = refl
-none_before (n ∷ ns) = let e : 0 + n ≡ n = omega arith in ap (λ m. m ∷ map (λ n. 0 + n) ns) e ∙ ap (λ l. n ∷ l) (none_before ns)
+none_before (n ∷ ns) =
+    let e : 0 + n ≡ n = omega arith in ap (λ m. m ∷ map (λ n. 0 + n) ns) e ∙ ap (λ l. n ∷ l) (none_before ns)
 
 pub with_none : (r : Result Joined Refusal) → with_front (joined [] []) r ≡ r
 with_none (Ok j) = ap (λ ends. Ok (joined j.atoms ends)) (none_before j.ends)
@@ -31,9 +38,12 @@ with_none (Err e) = refl
 pub regroup : (front : Joined) (found : Found) (r : Result Joined Refusal)
     → with_front front (with_atom found r) ≡ with_front (joined (front.atoms ++ atom_of found ∷ []) front.ends) r
 regroup front found (Ok j) =
-    let e : length (front.atoms ++ atom_of found ∷ []) ≡ suc (length front.atoms) = omega (arith, length-append front.atoms (atom_of found ∷ [])) in
-    ap (λ atoms. Ok (joined atoms (front.ends ++ map (λ n. length front.atoms + n) (map suc j.ends)))) (sym (append_assoc front.atoms (atom_of found ∷ []) j.atoms))
-    ∙ ap (λ ends. Ok (joined ((front.atoms ++ atom_of found ∷ []) ++ j.atoms) (front.ends ++ ends))) (shifted (length front.atoms) (length (front.atoms ++ atom_of found ∷ [])) e j.ends)
+    let e : length (front.atoms ++ atom_of found ∷ [])
+    ≡ suc (length front.atoms) = omega (arith, length-append front.atoms (atom_of found ∷ [])) in
+    ap (λ atoms. Ok (joined atoms (front.ends ++ map (λ n. length front.atoms + n) (map suc j.ends))))
+    (sym (append_assoc front.atoms (atom_of found ∷ []) j.atoms))
+    ∙ ap (λ ends. Ok (joined ((front.atoms ++ atom_of found ∷ []) ++ j.atoms) (front.ends ++ ends)))
+    (shifted (length front.atoms) (length (front.atoms ++ atom_of found ∷ [])) e j.ends)
 regroup front found (Err e) = refl
 
 pub regroup_end : (front : Joined) (r : Result Joined Refusal)
@@ -41,7 +51,8 @@ pub regroup_end : (front : Joined) (r : Result Joined Refusal)
 regroup_end front (Ok j) =
     let e : length front.atoms + 0 ≡ length front.atoms = omega arith in
     ap (λ n. Ok (joined (front.atoms ++ j.atoms) (front.ends ++ n ∷ map (λ n. length front.atoms + n) j.ends))) e
-    ∙ ap (λ ends. Ok (joined (front.atoms ++ j.atoms) ends)) (sym (append_assoc front.ends (length front.atoms ∷ []) (map (λ n. length front.atoms + n) j.ends)))
+    ∙ ap (λ ends. Ok (joined (front.atoms ++ j.atoms) ends)) (sym
+    (append_assoc front.ends (length front.atoms ∷ []) (map (λ n. length front.atoms + n) j.ends)))
 regroup_end front (Err e) = refl
 
 -- ---- conjunctions in a row
@@ -74,10 +85,12 @@ pub front_atom : (read : Conjunctions) (found : Found) (r : Result Joined Refusa
     → with_front (front_of read) (with_atom found r) ≡ with_front (front_of (then_atom read found)) r
 front_atom read found r =
     regroup (front_of read) found r
-    ∙ ap (λ atoms. with_front (joined atoms (ends_of read.ended)) r) (append_assoc (flat read.ended) read.atoms (atom_of found ∷ []))
+    ∙ ap (λ atoms. with_front (joined atoms (ends_of read.ended)) r)
+    (append_assoc (flat read.ended) read.atoms (atom_of found ∷ []))
 
 row_is : (read : Conjunctions)
-    → in_a_row (all_of read) ≡ joined (flat read.ended ++ read.atoms) (ends_of read.ended ++ length (flat read.ended ++ read.atoms) ∷ [])
+    → in_a_row (all_of read) ≡ joined (flat read.ended ++ read.atoms)
+    (ends_of read.ended ++ length (flat read.ended ++ read.atoms) ∷ [])
 row_is read =
     ap (λ atoms. joined atoms (ends_of (all_of read))) (flat_push read.ended read.atoms)
     ∙ ap (λ ends. joined (flat read.ended ++ read.atoms) ends) (ends_push read.ended read.atoms)
@@ -87,7 +100,8 @@ pub front_or : (read : Conjunctions) (r : Result Joined Refusal)
     → with_front (front_of read) (with_end r) ≡ with_front (front_of (then_or read)) r
 front_or read r =
     regroup_end (front_of read) r
-    ∙ ap (λ front. with_front front r) (sym (row_is read) ∙ ap (λ atoms. joined atoms (ends_of (all_of read))) (sym (append-nil (flat (all_of read)))))
+    ∙ ap (λ front. with_front front r) (sym (row_is read)
+    ∙ ap (λ atoms. joined atoms (ends_of (all_of read))) (sym (append-nil (flat (all_of read)))))
 
 -- the end
 pub front_end : (read : Conjunctions) → with_front (front_of read) (Ok all_read) ≡ told (Ok (all_of read))

@@ -31,7 +31,8 @@ err_is : {A : Type 0} (d e : Refusal) → ◌≡◌ {A = Result A Refusal} (Err 
 err_is d e h = cc
 
 -- sections that have one answer each have one together
-then_exactly : {A B : Type 0} (R : Result A Refusal → Type 0) (S : A → Result B Refusal → Type 0) (x : Result A Refusal) (f : A → Result B Refusal)
+then_exactly : {A B : Type 0} (R : Result A Refusal → Type 0) (S : A → Result B Refusal → Type 0) (x : Result A Refusal)
+    (f : A → Result B Refusal)
     → Exactly R x → ((a : A) → Exactly (S a) (f a)) → Exactly (Then R S) (x >>= f)
 then_exactly R S (Ok a) f h k = record {
   holds = goes_on a h.holds (k a).holds;
@@ -55,9 +56,12 @@ exactly R x h k = record { holds = h; only = k }
 
 -- the test of the condition's conjunctions
 expression_exactly : (last : ℕ) (ts : List Lexeme) (f : Joined → LitmusTest)
-    → Exactly (Then (Term last false [] none_read ts) (λ cs test. test ≡ Ok (f (in_a_row cs)))) (expression_at last (AtTerm false) outermost ts >>= λ j. Ok (f j))
+    → Exactly (Then (Term last false [] none_read ts) (λ cs test. test ≡ Ok (f (in_a_row cs))))
+    (expression_at last (AtTerm false) outermost ts >>= λ j. Ok (f j))
 expression_exactly last ts f = let s = some_expression last ts in record {
-  holds = subst (Then (Term last false [] none_read ts) _) (sym (ap (λ r. r >>= λ j. Ok (f j)) (expression_only s.1))) (made s.0 s.1);
+  holds =
+      subst (Then (Term last false [] none_read ts) _) (sym (ap (λ r. r >>= λ j. Ok (f j)) (expression_only s.1)))
+      (made s.0 s.1);
   only = go;
 }
   where
@@ -85,7 +89,9 @@ tokens_exactly last name ts =
 cut_exactly : (last : ℕ) (name : List ℕ) (rest : Rest)
     → Exactly (Cut last name rest) (tokens_at last name (lex 0 rest.at rest.text))
 cut_exactly last name rest = record {
-  holds = cut (lex 0 rest.at rest.text) (lexes_made rest.at rest.text) (tokens_exactly last name (lex 0 rest.at rest.text)).holds;
+  holds =
+      cut (lex 0 rest.at rest.text) (lexes_made rest.at rest.text)
+      (tokens_exactly last name (lex 0 rest.at rest.text)).holds;
   only = go;
 }
   where
@@ -96,7 +102,8 @@ sections_exactly : (text : List ℕ) → Exactly (Sections text) (sections_at te
 unfolding sections_at
 sections_exactly text =
     then_exactly _ _ _ _ (exactly _ _ (first_made text) (λ r h. first_only text h)) (λ first.
-    then_exactly _ _ _ _ (exactly _ _ (head_made (last_line text) first.1.at first.1.text) (λ r h. head_only h)) (λ rest.
+    then_exactly _ _ _ _ (exactly _ _ (head_made (last_line text) first.1.at first.1.text) (λ r h. head_only h))
+    (λ rest.
     cut_exactly (last_line text) first.0 rest))
 
 answer_made : (text : List ℕ) (r : Result LitmusTest Refusal) → Sections text r → Reads text (answer_of r)
@@ -124,6 +131,15 @@ pub accepted_is : (r : Result LitmusTest Refusal) (test : LitmusTest) → answer
 accepted_is (Err e) test h = absurd cc
 accepted_is (Ok made) test h = go (limit_of made) refl h
   where
-    go : (o : Option Shape) → limit_of made ≡ o → limited made o ≡ Accepted test → ◌≡◌ {A = Result LitmusTest Refusal} (Ok made) (Ok test) × (limit_of test ≡ None)
+    go : (o : Option Shape) → limit_of made ≡ o → limited made o ≡ Accepted test
+        → ◌≡◌ {A = Result LitmusTest Refusal} (Ok made) (Ok test) × (limit_of test ≡ None)
     go None e h = let same : made ≡ test = cc in (ap Ok same, subst (λ (t : LitmusTest). limit_of t ≡ None) same e)
     go (Some limit) e h = absurd cc
+
+-- two readings of a text are one
+pub same_reading : (text : List ℕ) (a b : Answer) → Reads text a → Reads text b → a ≡ b
+same_reading text a b p q = sym ((one_reading text).1 a p) ∙ (one_reading text).1 b q
+
+-- and two tests that it reads as
+pub same_test : (text : List ℕ) (a b : LitmusTest) → Reads text (Accepted a) → Reads text (Accepted b) → a ≡ b
+same_test text a b p q = let same : Accepted a ≡ Accepted b = same_reading text (Accepted a) (Accepted b) p q in cc

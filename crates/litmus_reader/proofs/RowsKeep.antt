@@ -1,4 +1,5 @@
--- What each cell keeps, a whole text keeps: what holds of the threads before the first row holds of those that are read.
+-- What each cell keeps, a whole text keeps: what holds of the threads before the first row holds of those that are
+-- read.
 use Rattle.std.proofs.Common.{◌≡◌, ℕ, zero, suc, Bool, true, false, cond, All, List, [], ◌∷◌, ◌++◌, length, Option, Some, None, Result, Ok, Err, refl, subst, arith}
 use Rattle.std.specs.Prelude.{◌==◌, slice_index_or}
 use Rattle.std.specs.List.{onto_first, slice_split}
@@ -13,14 +14,14 @@ use Rattle.litmus_reader.specs.declared.kind.LitmusKind.TheVariants.{Column}
 use Rattle.litmus_reader.specs.Answer.{refuse, ◌>>=◌, line_at, last_line}
 use Rattle.litmus_reader.specs.Front.{Rest, first_line, head}
 use Rattle.litmus_reader.specs.Initial.{ends_item, judge, items}
-use Rattle.litmus_reader.specs.Rows.{cells, are_columns, no_code, columns_at, body_of, threads_after, ends_code, acted, act, cell_at, cells_at, row_of, rows_at}
+use Rattle.litmus_reader.specs.Rows.{cells, are_columns, no_code, columns_at, column_code, threads_after, ends_code, acted, act, cell_at, cells_at, row_of, rows_at}
 use Rattle.litmus_reader.specs.Condition.{Joined, quantifier_at, section_at}
 use Rattle.litmus_reader.specs.Expression.{AtTerm, expression_at, outermost}
 use Rattle.litmus_reader.specs.Reading.{test_of, tokens_at, sections_at}
 use Rattle.litmus_reader.proofs.Bound.{bound, ok_is}
 
 -- what each body has and the empty one has, the body of each thread has
-pub body_has : (P : Code → Type 0) → P empty_code → (i : ℕ) (s : Threads) → All P s.bodies → P (body_of i s)
+pub body_has : (P : Code → Type 0) → P empty_code → (i : ℕ) (s : Threads) → All P s.bodies → P (column_code i s)
 body_has P none i s h = go s.bodies i h
   where
     go : (bodies : List Code) (i : ℕ) → All P bodies → P (slice_index_or bodies i empty_code)
@@ -58,7 +59,7 @@ pub record Kept (Good : Threads → Type 0) (name : List ℕ) (test : LitmusTest
   pub condition : expression_at last (AtTerm false) outermost rest ≡ Ok joined
   pub is : test_of name threads quantifier joined ≡ test
 
--- the same, behind a first line
+-- the same, after a first line
 pub record KeptBehind (Good : Threads → Type 0) (text : List ℕ) (test : LitmusTest) : Type 0 where
   pub first : List ℕ × Rest
   pub is_first : first_line text ≡ Ok first
@@ -66,8 +67,9 @@ pub record KeptBehind (Good : Threads → Type 0) (text : List ℕ) (test : Litm
 
 module _ (Plain : Lexeme → Type 0) (Good : Threads → Type 0)
     (start : (row : List Lexeme) → Good (no_code (length (cells row))))
-    (keeps : (i : ℕ) (s : Threads) (cell : List Lexeme) (form : Form) (code : Code) → Are Plain cell → parse cell ≡ Ok form
-    → code_after s.locations form (body_of i s) ≡ Some code → Good s → Good (threads_after i form s code)) where
+    (keeps : (i : ℕ) (s : Threads) (cell : List Lexeme) (form : Form) (code : Code) → Are Plain cell
+    → parse cell ≡ Ok form
+    → code_after s.locations form (column_code i s) ≡ Some code → Good s → Good (threads_after i form s code)) where
   are_append : (a b : List Lexeme) → Are Plain a → Are Plain b → Are Plain (a ++ b)
   are_append [] b h k = k
   are_append (t ∷ a) b h k = (h.0, are_append a b h.1 k)
@@ -86,7 +88,7 @@ module _ (Plain : Lexeme → Type 0) (Good : Threads → Type 0)
 
   acted_keeps : (i : ℕ) (s : Threads) (cell : List Lexeme) (form : Form) (o : Option Code) (line : ℕ) (next : Threads)
       → Are Plain cell → parse cell ≡ Ok form
-      → code_after s.locations form (body_of i s) ≡ o → acted i form s o line ≡ Ok next → Good s → Good next
+      → code_after s.locations form (column_code i s) ≡ o → acted i form s o line ≡ Ok next → Good s → Good next
   acted_keeps i s cell form None line next p m k e h = absurd cc
   acted_keeps i s cell form (Some code) line next p m k e h =
       subst Good (ok_is (threads_after i form s code) next e) (keeps i s cell form code p m k h)
@@ -96,7 +98,7 @@ module _ (Plain : Lexeme → Type 0) (Good : Threads → Type 0)
       → act i s r line ≡ Ok next → Good s → Good next
   act_keeps i s cell (Err d) line next p m e h = absurd cc
   act_keeps i s cell (Ok form) line next p m e h =
-      acted_keeps i s cell form (code_after s.locations form (body_of i s)) line next p m refl e h
+      acted_keeps i s cell form (code_after s.locations form (column_code i s)) line next p m refl e h
 
   cell_keeps : (i : ℕ) (s : Threads) (cell : List Lexeme) (next : Threads) → Are Plain cell → cell_at i s cell ≡ Ok next
       → Good s → Good next
@@ -126,15 +128,18 @@ module _ (Plain : Lexeme → Type 0) (Good : Threads → Type 0)
   rows_keep last s [] [] x m n e h = absurd cc
   rows_keep last s (y ∷ row) [] x m n e h = absurd cc
   rows_keep last s [] (t ∷ ts) x m n e h =
-      go (λ next k. rows_keep last next [] ts x tt n.1 k) (rows_keep last s (t ∷ []) ts x (n.0, tt) n.1) (ends_code t) (is Semi t) e
+      go (λ next k. rows_keep last next [] ts x tt n.1 k) (rows_keep last s (t ∷ []) ts x (n.0, tt) n.1) (ends_code t)
+      (is Semi t) e
     where
       go : ((next : Threads) → rows_at last next [] ts ≡ Ok x → Good next → Good x.0)
           → (rows_at last s (t ∷ []) ts ≡ Ok x → Good s → Good x.0) → (v w : Bool)
-          → cond v (Ok (s, t ∷ ts)) (cond w (row_of t.line s [] >>= (λ next. rows_at last next [] ts)) (rows_at last s (t ∷ []) ts)) ≡ Ok x
+          → cond v (Ok (s, t ∷ ts)) (cond w (row_of t.line s [] >>= (λ next. rows_at last next [] ts))
+          (rows_at last s (t ∷ []) ts)) ≡ Ok x
           → Good x.0
       go again longer true w k = subst (λ (x : Threads × List Lexeme). Good x.0) (ok_is (s, t ∷ ts) x k) h
       go again longer false true k =
-          let b = bound (row_of t.line s []) (λ next. rows_at last next [] ts) x k in again b.0 b.2 (row_keeps t.line s [] b.0 tt b.1 h)
+          let b = bound (row_of t.line s []) (λ next. rows_at last next [] ts) x k in
+          again b.0 b.2 (row_keeps t.line s [] b.0 tt b.1 h)
       go again longer false false k = longer k h
   rows_keep last s (y ∷ row) (t ∷ ts) x m n e h =
       go (λ next k. rows_keep last next [] ts x tt n.1 k)
@@ -142,10 +147,12 @@ module _ (Plain : Lexeme → Type 0) (Good : Threads → Type 0)
     where
       go : ((next : Threads) → rows_at last next [] ts ≡ Ok x → Good next → Good x.0)
           → (rows_at last s (y ∷ (row ++ t ∷ [])) ts ≡ Ok x → Good s → Good x.0) → (w : Bool)
-          → cond w (row_of t.line s (y ∷ row) >>= (λ next. rows_at last next [] ts)) (rows_at last s (y ∷ (row ++ t ∷ [])) ts) ≡ Ok x
+          → cond w (row_of t.line s (y ∷ row) >>= (λ next. rows_at last next [] ts))
+          (rows_at last s (y ∷ (row ++ t ∷ [])) ts) ≡ Ok x
           → Good x.0
       go again longer true k =
-          let b = bound (row_of t.line s (y ∷ row)) (λ next. rows_at last next [] ts) x k in again b.0 b.2 (row_keeps t.line s (y ∷ row) b.0 m b.1 h)
+          let b = bound (row_of t.line s (y ∷ row)) (λ next. rows_at last next [] ts) x k in
+          again b.0 b.2 (row_keeps t.line s (y ∷ row) b.0 m b.1 h)
       go again longer false k = longer k h
 
   columns_keep : (last : ℕ) (row ts : List Lexeme) (x : Threads × List Lexeme) → Are Plain ts
@@ -156,18 +163,22 @@ module _ (Plain : Lexeme → Type 0) (Good : Threads → Type 0)
       go (columns_keep last (row ++ t ∷ []) ts x h.1) (is Semi t) (are_columns 0 (cells row)) e
     where
       go : (columns_at last (row ++ t ∷ []) ts ≡ Ok x → Good x.0 × Are Plain x.1) → (v w : Bool)
-          → cond v (cond w (Ok (no_code (length (cells row)), ts)) (refuse Column t.line)) (columns_at last (row ++ t ∷ []) ts) ≡ Ok x
+          → cond v (cond w (Ok (no_code (length (cells row)), ts)) (refuse Column t.line))
+          (columns_at last (row ++ t ∷ []) ts) ≡ Ok x
           → Good x.0 × Are Plain x.1
       go longer true true k =
-          subst (λ (x : Threads × List Lexeme). Good x.0 × Are Plain x.1) (ok_is (no_code (length (cells row)), ts) x k) (start row, h.1)
+          subst (λ (x : Threads × List Lexeme). Good x.0 × Are Plain x.1) (ok_is (no_code (length (cells row)), ts) x k)
+          (start row, h.1)
       go longer true false k = absurd cc
       go longer false w k = longer k
 
-  -- the tokens behind the initial state
+  -- the tokens after the initial state
   items_keep : (last : ℕ) (item ts rest : List Lexeme) → Are Plain ts → items last item ts ≡ Ok rest → Are Plain rest
   unfolding items
   items_keep last item [] rest h e = absurd cc
-  items_keep last item (t ∷ ts) rest h e = go (items_keep last [] ts rest h.1) (items_keep last (item ++ t ∷ []) ts rest h.1) (ends_item t) (is RightBrace t) e
+  items_keep last item (t ∷ ts) rest h e =
+      go (items_keep last [] ts rest h.1) (items_keep last (item ++ t ∷ []) ts rest h.1) (ends_item t)
+      (is RightBrace t) e
     where
       ends : (items last [] ts ≡ Ok rest → Are Plain rest) → (w : Bool) → cond w (Ok ts) (items last [] ts) ≡ Ok rest
           → Are Plain rest
@@ -178,7 +189,8 @@ module _ (Plain : Lexeme → Type 0) (Good : Threads → Type 0)
           → (v w : Bool)
           → cond v (judge item >>= (λ _. cond w (Ok ts) (items last [] ts))) (items last (item ++ t ∷ []) ts) ≡ Ok rest
           → Are Plain rest
-      go next longer true w k = let b = bound (judge item) (λ _. cond w (Ok ts) (items last [] ts)) rest k in ends next w b.2
+      go next longer true w k =
+          let b = bound (judge item) (λ _. cond w (Ok ts) (items last [] ts)) rest k in ends next w b.2
       go next longer false w k = longer k
 
   -- ---- the whole text
@@ -217,7 +229,9 @@ module _ (Plain : Lexeme → Type 0) (Good : Threads → Type 0)
 
 -- where nothing is asked of the tokens
 pub threads_keep : (Good : Threads → Type 0) → ((row : List Lexeme) → Good (no_code (length (cells row))))
-    → ((i : ℕ) (s : Threads) (form : Form) (code : Code) → code_after s.locations form (body_of i s) ≡ Some code → Good s → Good (threads_after i form s code))
+    → ((i : ℕ) (s : Threads) (form : Form) (code : Code) → code_after s.locations form (column_code i s) ≡ Some code
+    → Good s → Good (threads_after i form s code))
     → (text : List ℕ) (test : LitmusTest) → sections_at text ≡ Ok test → KeptBehind Good text test
 threads_keep Good start keeps text test e =
-    sections_keep Anything Good start (λ i s cell form code p m k h. keeps i s form code k h) text test (λ at text. anything (lex 0 at text)) e
+    sections_keep Anything Good start (λ i s cell form code p m k h. keeps i s form code k h) text test
+    (λ at text. anything (lex 0 at text)) e

@@ -17,7 +17,7 @@ use Rattle.x86_subset.proofs.ShapeLaws.{short_all}
 use Rattle.litmus_reader.specs.Answer.{Accepted}
 use Rattle.litmus_reader.specs.Draft.{IsFit}
 use Rattle.litmus_reader.specs.Reading.{Reads, read_text, sections_at}
-use Rattle.litmus_reader.specs.Rows.{body_of, cells, threads_after}
+use Rattle.litmus_reader.specs.Rows.{column_code, cells, threads_after}
 use Rattle.litmus_reader.proofs.RowsKeep.{body_has, threads_keep}
 use Rattle.litmus_reader.proofs.FitLaws.{sections_fit}
 use Rattle.litmus_reader.proofs.ReadingLaws.{accepted_is, one_reading}
@@ -50,16 +50,19 @@ module _ (locations : List (List ℕ)) (code : Code) (h : IsHolding code) where
       go (held.Read place) k = absurd cc
   code_holds (Load r x) next e =
       let i = instr.Load r (location_number locations x) in
-      some_code _ next e (are_held_read code.actions (code.actions ++ i ∷ []) i code.registers (register_number r) (length code.actions) refl refl refl h)
+      some_code _ next e (are_held_read code.actions (code.actions ++ i ∷ []) i code.registers (register_number r)
+      (length code.actions) refl refl refl h)
   code_holds (Constant r n) next e =
       some_code _ next e (are_held_set code.actions code.registers (register_number r) (held.Constant n) tt h)
   code_holds (Exchange x r) next e = go (held_by code r) e
     where
-      go : (v : Held) → with_constant v (λ n. reading code r (instr.Exchange (location_number locations x) n r)) ≡ Some next
+      go : (v : Held) → with_constant v (λ n. reading code r (instr.Exchange (location_number locations x) n r))
+          ≡ Some next
           → IsHolding next
       go (held.Constant n) k =
           let i = instr.Exchange (location_number locations x) n r in
-          some_code _ next k (are_held_read code.actions (code.actions ++ i ∷ []) i code.registers (register_number r) (length code.actions) refl refl refl h)
+          some_code _ next k (are_held_read code.actions (code.actions ++ i ∷ []) i code.registers (register_number r)
+          (length code.actions) refl refl refl h)
       go (held.Read place) k = absurd cc
 
 -- ---- the threads that are read
@@ -67,11 +70,13 @@ module _ (locations : List (List ℕ)) (code : Code) (h : IsHolding code) where
 abbrev AreHolding : Threads → Type 0
 AreHolding s = All IsHolding s.bodies
 
-acted_holds : (i : ℕ) (s : Threads) (form : Form) (code : Code) → code_after s.locations form (body_of i s) ≡ Some code
+acted_holds : (i : ℕ) (s : Threads) (form : Form) (code : Code)
+    → code_after s.locations form (column_code i s) ≡ Some code
     → AreHolding s
     → AreHolding (threads_after i form s code)
 acted_holds i s form code k h =
-    All-set IsHolding s.bodies i code (code_holds s.locations (body_of i s) (body_has IsHolding empty_holds i s h) form code k) h
+    All-set IsHolding s.bodies i code (code_holds s.locations (column_code i s)
+    (body_has IsHolding empty_holds i s h) form code k) h
 
 sections_hold : (text : List ℕ) (test : LitmusTest) → sections_at text ≡ Ok test → HoldsReads test
 sections_hold text test e =
@@ -83,7 +88,8 @@ sections_hold text test e =
 
 -- no limit is passed
 none_passed : (threads locations actions atoms : Bool)
-    → (if threads then Some TooManyThreads else if locations then Some Locations else if actions then Some Instrs else if atoms then Some Atoms else None) ≡ None
+    → (if threads then Some TooManyThreads else if locations then Some Locations else if actions then Some Instrs
+    else if atoms then Some Atoms else None) ≡ None
     → (threads ≡ false) × (locations ≡ false) × (actions ≡ false) × (atoms ≡ false)
 none_passed true locations actions atoms e = absurd cc
 none_passed false true actions atoms e = absurd cc

@@ -1,5 +1,6 @@
 -- What a text is read as, and how sections follow one another. This project's own.
 use Rattle.std.specs.Prelude.{ℕ, suc, List, [], ◌∷◌, Result, Ok, Err, ◌==◌, if◌then◌else◌}
+use Prim.Native.Char.{code}
 use Rattle.x86_subset.specs.declared.test.Shape.{Shape}
 use Rattle.x86_subset.specs.Test.{LitmusTest}
 use Rattle.x86_subset.specs.Token.{Lexeme}
@@ -53,7 +54,7 @@ pub data Then {A B : Type 0} (first : Result A Refusal → Type 0) (next : A →
 abbrev pub last_line : List ℕ → ℕ
 last_line [] = 1
 last_line (b ∷ []) = 1
-last_line (b ∷ c ∷ bs) = if b == 10 then suc (last_line (c ∷ bs)) else last_line (c ∷ bs)
+last_line (b ∷ c ∷ bs) = if b == code "\n" then suc (last_line (c ∷ bs)) else last_line (c ∷ bs)
 
 -- the line of the first of the tokens; the line given where there is none
 abbrev pub line_at : ℕ → List Lexeme → ℕ

@@ -24,11 +24,11 @@ is_locations (t ∷ ts) = is_word (codes "locations") t
 abbrev pub is_no_close : Lexeme → Bool
 is_no_close t = not (is RightSquare t)
 
--- the tokens behind the section, if there is one
+-- the tokens after the section, if there is one
 pub data Section (last : ℕ) : List Lexeme → Result (List Lexeme) Refusal → Type 0 where
   -- no section
   none : {ts : List Lexeme} → IsFalse (is_locations ts) → Section last ts (Ok ts)
-  -- the text is over behind the word
+  -- the text is over after the word
   ended : {t : Lexeme} → IsTrue (is_word (codes "locations") t) → Section last (t ∷ []) (refuse Condition last)
   -- another token in place of the bracket: its line
   wrong : {t u : Lexeme} {ts : List Lexeme} → IsTrue (is_word (codes "locations") t) → IsFalse (is LeftSquare u)
@@ -48,7 +48,7 @@ pub data Section (last : ℕ) : List Lexeme → Result (List Lexeme) Refusal →
 abbrev pub begins_quantifier : Lexeme → Bool
 begins_quantifier t = is Tilde t || is_word (codes "exists") t || is_word (codes "forall") t
 
--- the quantifier, and the tokens behind it
+-- the quantifier, and the tokens after it
 pub data Quantified (last : ℕ) : List Lexeme → Result (Quantifier × List Lexeme) Refusal → Type 0 where
   -- the text is over
   ended : Quantified last [] (refuse Condition last)
@@ -61,12 +61,12 @@ pub data Quantified (last : ℕ) : List Lexeme → Result (Quantifier × List Le
   -- any other token: its line
   other : {t : Lexeme} {ts : List Lexeme} → IsFalse (begins_quantifier t)
       → Quantified last (t ∷ ts) (refuse Condition t.line)
-  -- the text is over behind `~`
+  -- the text is over after `~`
   tilde_ended : {t : Lexeme} → IsTrue (is Tilde t) → Quantified last (t ∷ []) (refuse Condition last)
   -- `~exists`
   not_exists : {t u : Lexeme} {ts : List Lexeme} → IsTrue (is Tilde t) → IsTrue (is_word (codes "exists") u)
       → Quantified last (t ∷ u ∷ ts) (Ok (NotExists, ts))
-  -- another token behind `~`: its line
+  -- another token after `~`: its line
   tilde_other : {t u : Lexeme} {ts : List Lexeme} → IsTrue (is Tilde t) → IsFalse (is_word (codes "exists") u)
       → Quantified last (t ∷ u ∷ ts) (refuse Condition u.line)
 
@@ -83,16 +83,16 @@ atom_slots = Thread ∷ Mark Colon ∷ Register ∷ Mark Equal ∷ Maybe Dollar 
 abbrev pub atom_of : Found → Atom
 atom_of found = record { thread = found.thread; reg = found.register; value = found.small }
 
--- an open parenthesis: whether it began directly behind a `/\`, and whether a `\/` has stood in it
+-- an open parenthesis: whether it began directly after a `/\`, and whether a `\/` has stood in it
 pub record Paren : Type 0 where
   pub joined : Bool
   pub holds : Bool
 
--- one that begins, directly behind a `/\` or not
+-- one that begins, directly after a `/\` or not
 abbrev pub begun : Bool → Paren
 begun joined = record { joined = joined; holds = false }
 
--- behind a `\/` all that are open hold one
+-- after a `\/` all that are open hold one
 abbrev pub all_hold : List Paren → List Paren
 all_hold around = map (λ (p : Paren). record p { holds = true }) around
 
@@ -121,7 +121,7 @@ then_or read = record { ended = all_of read; atoms = [] }
 abbrev pub may_open : List Paren → Bool
 may_open around = nat_lt (length around) 16
 
--- a `\/` may stand inside these: none of them began directly behind a `/\`, and no ninth conjunction begins
+-- a `\/` may stand inside these: none of them began directly after a `/\`, and no ninth conjunction begins
 abbrev pub may_part : List Paren → Conjunctions → Bool
 may_part around read = not (list_any (λ (p : Paren). p.joined) around) && nat_lt (length read.ended) 7
 
@@ -157,7 +157,7 @@ pub data NoTerm (last : ℕ) (around : List Paren) : List Lexeme → LitmusKind 
 -- `NoMore last read holds around tokens kind line`: a term has ended here, one in parentheses that holds a `\/` or not,
 -- and this cannot follow
 pub data NoMore (last : ℕ) (read : Conjunctions) : Bool → List Paren → List Lexeme → LitmusKind → ℕ → Type 0 where
-  -- `/\` behind a term that stands alone: its line
+  -- `/\` after a term that stands alone: its line
   mixed_and : {around : List Paren} {t : Lexeme} {ts : List Lexeme} → IsTrue (is Both t)
       → NoMore last read true around (t ∷ ts) Disjunction t.line
   -- `\/` where none may stand: its line
@@ -178,8 +178,8 @@ abbrev pub Told : Type 0
 Told = Result (List (List Atom)) Refusal
 
 mutual
-  -- `Term last joined around read tokens answer`: a term must stand here, directly behind a `/\` or not, inside these
-  -- open parentheses, the innermost one first, and behind what was read
+  -- `Term last joined around read tokens answer`: a term must stand here, directly after a `/\` or not, inside these
+  -- open parentheses, the innermost one first, and after what was read
   pub data Term (last : ℕ) : Bool → List Paren → Conjunctions → List Lexeme → Told → Type 0 where
     -- an atom
     atom : {joined : Bool} {around : List Paren} {read : Conjunctions} {t : Lexeme} {ts : List Lexeme} {r : Told}
@@ -196,7 +196,7 @@ mutual
         {kind : LitmusKind} {line : ℕ} → NoTerm last around ts kind line
         → Term last joined around read ts (refuse kind line)
 
-  -- `Behind last holds around read tokens answer`: a term has ended here, one in parentheses that holds a `\/` or not
+  -- `After last holds around read tokens answer`: a term has ended here, one in parentheses that holds a `\/` or not
   pub data Behind (last : ℕ) : Bool → List Paren → Conjunctions → List Lexeme → Told → Type 0 where
     -- `/\`, and a further term
     and : {around : List Paren} {read : Conjunctions} {t : Lexeme} {ts : List Lexeme} {r : Told}
@@ -234,27 +234,27 @@ in_a_row cs = record { atoms = flat_map (λ c. c) cs; ends = ends_of cs }
 
 -- ---- the same as functions
 
--- the tokens behind the next closing bracket
+-- the tokens after the next closing bracket
 unfoldable pub behind_close : ℕ → List Lexeme → Result (List Lexeme) Refusal
 behind_close last [] = refuse Condition last
 behind_close last (t ∷ ts) = let more = behind_close last ts in if is RightSquare t then Ok ts else more
 
--- the tokens behind a list in brackets
+-- the tokens after a list in brackets
 abbrev pub opened_at : ℕ → List Lexeme → Result (List Lexeme) Refusal
 opened_at last [] = refuse Condition last
 opened_at last (t ∷ ts) = if is LeftSquare t then behind_close last ts else refuse Condition t.line
 
--- the tokens behind the section of locations, if there is one
+-- the tokens after the section of locations, if there is one
 unfoldable pub section_at : ℕ → List Lexeme → Result (List Lexeme) Refusal
 section_at last [] = Ok []
 section_at last (t ∷ ts) = if is_word (codes "locations") t then opened_at last ts else Ok (t ∷ ts)
 
--- `exists` behind a `~`
+-- `exists` after a `~`
 abbrev pub behind_tilde : ℕ → List Lexeme → Result (Quantifier × List Lexeme) Refusal
 behind_tilde last [] = refuse Condition last
 behind_tilde last (t ∷ ts) = if is_word (codes "exists") t then Ok (NotExists, ts) else refuse Condition t.line
 
--- the quantifier, and the tokens behind it
+-- the quantifier, and the tokens after it
 unfoldable pub quantifier_at : ℕ → List Lexeme → Result (Quantifier × List Lexeme) Refusal
 quantifier_at last [] = refuse Condition last
 quantifier_at last (t ∷ ts) =

@@ -27,17 +27,17 @@ abbrev pub with_end : Result Joined Refusal → Result Joined Refusal
 with_end r = r >>= λ j. Ok (record { atoms = j.atoms; ends = 0 ∷ j.ends })
 
 -- Where a token stands: inside `depth` open parentheses, of which the outermost `holding` hold a `\/`. The outermost
--- one that began directly behind a `/\` is the one of number `barred`, from 1 on; 0 where none did. So many `\/` stand
+-- one that began directly after a `/\` is the one of number `barred`, from 1 on; 0 where none did. So many `\/` stand
 -- before.
 abbrev pub outermost : Nest
 outermost = record { depth = 0; holding = 0; barred = 0; ors = 0 }
 
--- inside one more parenthesis, which began directly behind a `/\` or not
+-- inside one more parenthesis, which began directly after a `/\` or not
 abbrev pub opened_in : Bool → Nest → Nest
 opened_in joined n =
     record n { depth = n.depth + 1; barred = if joined && n.barred == 0 then n.depth + 1 else n.barred }
 
--- behind the parenthesis that closes the innermost one
+-- after the parenthesis that closes the innermost one
 abbrev pub closed_in : Nest → Nest
 closed_in n = record n {
   depth = n.depth - 1;
@@ -49,11 +49,11 @@ closed_in n = record n {
 abbrev pub holds_or : Nest → Bool
 holds_or n = nat_le n.depth n.holding
 
--- behind a `\/`: each open parenthesis holds it
+-- after a `\/`: each open parenthesis holds it
 abbrev pub behind_or : Nest → Nest
 behind_or n = record n { holding = n.depth; ors = n.ors + 1 }
 
--- a `\/` may stand here: no parenthesis around it began directly behind a `/\`, and no ninth conjunction begins
+-- a `\/` may stand here: no parenthesis around it began directly after a `/\`, and no ninth conjunction begins
 abbrev pub may_or : Nest → Bool
 may_or n = n.barred == 0 && nat_lt n.ors 7
 
@@ -63,7 +63,7 @@ is_outside n = n.depth == 0
 
 -- ---- steps
 
--- where the reading of an expression stands: where a term must stand, behind one, or in an atom, of which these slots
+-- where the reading of an expression stands: where a term must stand, after one, or in an atom, of which these slots
 -- are left
 pub data Place : Type 0 where
   AtTerm : Bool → Place
@@ -77,7 +77,7 @@ pub data Step : Type 0 where
   Ends : Found → Step
   Fails : LitmusKind → Step
 
--- behind a token that filled a slot
+-- after a token that filled a slot
 abbrev pub filled : Nest → List Slot → Found → Step
 filled n [] found = Ends found
 filled n (s ∷ ss) found = Goes (InAtom (s ∷ ss) found) n
@@ -97,7 +97,7 @@ at_term joined n t next =
     if is Left t then (if nat_lt n.depth 16 then Goes (AtTerm false) (opened_in joined n) else Fails Condition) else
     Fails (if is_memory t next then MemoryCondition else Condition)
 
--- a token behind a term
+-- a token after a term
 unfoldable pub behind_term : Bool → Nest → Lexeme → Step
 behind_term mixed n t =
     if is Both t then (if mixed then Fails Disjunction else Goes (AtTerm true) n) else

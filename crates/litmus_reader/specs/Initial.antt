@@ -44,7 +44,7 @@ ends_item t = is Semi t || is RightBrace t
 abbrev pub is_inside : Lexeme → Bool
 is_inside t = not (ends_item t)
 
--- `Items last tokens answer`: the items that begin here are read, and the answer is the tokens behind the closing brace
+-- `Items last tokens answer`: the items that begin here are read, and the answer is the tokens after the closing brace
 pub data Items (last : ℕ) : List Lexeme → Result (List Lexeme) Refusal → Type 0 where
   -- no item ends any more
   unended : {ts : List Lexeme} → IsTrue (list_all is_inside ts) → Items last ts (refuse Initial last)

@@ -24,7 +24,7 @@ test_of name threads quantifier j = record {
   ends = j.ends;
 }
 
--- the sections of the tokens behind the first brace
+-- the sections of the tokens after the first brace
 abbrev pub Tokens : ℕ → List ℕ → List Lexeme → Result LitmusTest Refusal → Type 0
 Tokens last name ts =
     Then (Items last ts) (λ ts.
@@ -34,7 +34,7 @@ Tokens last name ts =
     Then (Quantified last ts) (λ q.
     Then (Term last false [] none_read q.1) (λ cs test. test ≡ Ok (test_of name s.0 q.0 (in_a_row cs))))))))
 
--- the tokens behind the first brace
+-- the tokens after the first brace
 pub data Cut (last : ℕ) (name : List ℕ) (rest : Rest) (r : Result LitmusTest Refusal) : Type 0 where
   cut : (ts : List Lexeme) → Lexes rest.at rest.text ts → Tokens last name ts r → Cut last name rest r
 
@@ -58,7 +58,7 @@ pub data Reads (text : List ℕ) : Answer → Type 0 where
 
 -- ---- the same as functions
 
--- the test of the tokens behind the first brace
+-- the test of the tokens after the first brace
 unfoldable pub tokens_at : ℕ → List ℕ → List Lexeme → Result LitmusTest Refusal
 tokens_at last name ts = do
   ts ← items last [] ts

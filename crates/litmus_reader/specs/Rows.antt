@@ -24,7 +24,7 @@ cells row = slice_split (is Bar) row
 
 -- the cell names the column
 abbrev pub is_column : ℕ → List Lexeme → Bool
-is_column i (t ∷ []) = is_word (80 ∷ decimal i) t
+is_column i (t ∷ []) = is_word (codes "P" ++ decimal i) t
 is_column i _ = false
 
 -- the cells name the columns from this one on
@@ -36,7 +36,7 @@ are_columns i (cell ∷ cells) = is_column i cell && are_columns (suc i) cells
 abbrev pub no_code : ℕ → Threads
 no_code threads = record { locations = []; bodies = replicate threads empty_code }
 
--- `Columns last tokens answer`: the threads of the first row, and the tokens behind it
+-- `Columns last tokens answer`: the threads of the first row, and the tokens after it
 pub data Columns (last : ℕ) : List Lexeme → Result (Threads × List Lexeme) Refusal → Type 0 where
   -- the row of columns has no end
   unended : {ts : List Lexeme} → IsTrue (list_all is_no_semi ts) → Columns last ts (refuse Column last)
@@ -51,9 +51,9 @@ pub data Columns (last : ℕ) : List Lexeme → Result (Threads × List Lexeme) 
 
 -- ---- one cell
 
--- the body of the column
-abbrev pub body_of : ℕ → Threads → Code
-body_of i s = slice_index_or s.bodies i empty_code
+-- the code of column i so far
+abbrev pub column_code : ℕ → Threads → Code
+column_code i s = slice_index_or s.bodies i empty_code
 
 -- the threads after a form in the column i
 abbrev pub threads_after : ℕ → Form → Threads → Code → Threads
@@ -65,10 +65,10 @@ pub data Cell (i : ℕ) (s : Threads) (ts : List Lexeme) : Result Threads Refusa
   -- nothing, for whatever cause: the line where the cell begins
   no_form : (e : InstrError) → Parses ts (Err e) → Cell i s ts (refuse Instruction (line_at 0 ts))
   -- a store or exchange of a register that holds a read, likewise
-  not_constant : (form : Form) → Parses ts (Ok form) → code_after s.locations form (body_of i s) ≡ None
+  not_constant : (form : Form) → Parses ts (Ok form) → code_after s.locations form (column_code i s) ≡ None
       → Cell i s ts (refuse NotConstant (line_at 0 ts))
   -- the form acts on its thread
-  acts : (form : Form) (code : Code) → Parses ts (Ok form) → code_after s.locations form (body_of i s) ≡ Some code
+  acts : (form : Form) (code : Code) → Parses ts (Ok form) → code_after s.locations form (column_code i s) ≡ Some code
       → Cell i s ts (Ok (threads_after i form s code))
 
 -- the cells of a row, from the column i on
@@ -143,7 +143,7 @@ acted i form s (Some code) line = Ok (threads_after i form s code)
 -- the threads after what a cell says
 abbrev pub act : ℕ → Threads → Result Form InstrError → ℕ → Result Threads Refusal
 act i s (Err e) line = refuse Instruction line
-act i s (Ok form) line = acted i form s (code_after s.locations form (body_of i s)) line
+act i s (Ok form) line = acted i form s (code_after s.locations form (column_code i s)) line
 
 -- the threads after a cell
 unfoldable pub cell_at : ℕ → Threads → List Lexeme → Result Threads Refusal

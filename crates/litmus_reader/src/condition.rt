@@ -1,23 +1,16 @@
-// The section of locations, and the condition.
+//! The section of locations, and the condition.
 ghost use Rattle.std.specs.Prelude.{ℕ, List, ◌≡◌, ◌<◌, ◌≤◌, ◌+◌, ◌++◌, length, drop, false, IfOk, Ok, Err, if◌then◌else◌};
 ghost use Rattle.litmus_reader.specs.declared.kind.LitmusKind.TheVariants.{Disjunction};
-ghost use Rattle.x86_subset.specs.Form.{is, is_word, next_is, lexeme_of, lexemes, found_of, nothing_found};
+ghost use Rattle.x86_subset.specs.Form.{next_is, lexeme_of, lexemes, found_of, nothing_found};
 ghost use Rattle.litmus_reader.specs.Condition.{behind_close, opened_at, section_at, behind_tilde, quantifier_at, is_memory, atom_slots};
 ghost use Rattle.litmus_reader.specs.Expression.{in_atom, at_term, behind_term, step, filled, is_done, expression_at, AtTerm, outermost, opened_in, closed_in, may_or, behind_or, Parts, Fails};
 ghost use Rattle.litmus_reader.specs.Outcome.{Answers, place_of, step_of, joined_of};
 
 use crate::kind::{LitmusError, LitmusKind, bad};
 use std::alloc::Global;
-use x86_subset::{Atom, Found, Quantifier, Slot, Token, TokenKind, is, spelled};
+use x86_subset::{Atom, Found, Quantifier, Slot, Token, TokenKind};
 
-/// Whether the token is this word, letter by letter.
-pub fn is_word(bytes: &[u8], t: &Token, word: &[u8]) -> bool
-    ensures { result ≡ is_word word.now (lexeme_of bytes.now t.now) }
-{
-    is(TokenKind::Name, t) && spelled(bytes, t) == word
-}
-
-/// The tokens behind the next closing bracket.
+/// The tokens after the next closing bracket.
 fn behind_close<'a>(
     bytes: &[u8],
     tokens: &'a [Token],
@@ -27,7 +20,7 @@ fn behind_close<'a>(
     ensures few { IfOk result (λ ts. length ts.now ≤ length tokens.now) }
 {
     for (i, t) in tokens.iter().enumerate() {
-        if is(TokenKind::RightSquare, t) {
+        if t.is(TokenKind::RightSquare) {
             return Ok(&tokens[i + 1..]);
         }
     }
@@ -41,7 +34,7 @@ fn opened<'a>(bytes: &[u8], tokens: &'a [Token], last: u32) -> Result<&'a [Token
     match tokens {
         [] => Err(bad(LitmusKind::Condition, last)),
         [t, rest @ ..] => {
-            if is(TokenKind::LeftSquare, t) {
+            if t.is(TokenKind::LeftSquare) {
                 behind_close(bytes, rest, last)
             } else {
                 Err(bad(LitmusKind::Condition, t.line))
@@ -50,7 +43,7 @@ fn opened<'a>(bytes: &[u8], tokens: &'a [Token], last: u32) -> Result<&'a [Token
     }
 }
 
-/// The tokens behind the section of locations, if there is one.
+/// The tokens after the section of locations, if there is one.
 #[tactic(auto, unfolding(crate::specs::Condition::section_at))]
 pub fn section<'a>(bytes: &[u8], tokens: &'a [Token], last: u32) -> Result<&'a [Token], LitmusError>
     ensures is { Answers (λ ts. lexemes bytes.now ts.now) result (section_at last (lexemes bytes.now tokens.now)) }
@@ -59,7 +52,7 @@ pub fn section<'a>(bytes: &[u8], tokens: &'a [Token], last: u32) -> Result<&'a [
     match tokens {
         [] => Ok(tokens),
         [t, rest @ ..] => {
-            if is_word(bytes, t, b"locations") {
+            if t.is_word(bytes, b"locations") {
                 opened(bytes, rest, last)
             } else {
                 Ok(tokens)
@@ -73,13 +66,14 @@ fn behind_tilde<'a>(
     tokens: &'a [Token],
     last: u32,
 ) -> Result<(Quantifier, &'a [Token]), LitmusError>
-    ensures is { Answers (λ x. (x.0, lexemes bytes.now x.1.now)) result (behind_tilde last (lexemes bytes.now tokens.now)) }
+    ensures is { Answers (λ x. (x.0, lexemes bytes.now x.1.now)) result
+        (behind_tilde last (lexemes bytes.now tokens.now)) }
     ensures few { IfOk result (λ x. length x.1.now ≤ length tokens.now) }
 {
     match tokens {
         [] => Err(bad(LitmusKind::Condition, last)),
         [t, rest @ ..] => {
-            if is_word(bytes, t, b"exists") {
+            if t.is_word(bytes, b"exists") {
                 Ok((Quantifier::NotExists, rest))
             } else {
                 Err(bad(LitmusKind::Condition, t.line))
@@ -88,24 +82,25 @@ fn behind_tilde<'a>(
     }
 }
 
-/// The quantifier, and the tokens behind it.
+/// The quantifier, and the tokens after it.
 #[tactic(auto, unfolding(crate::specs::Condition::quantifier_at))]
 pub fn quantifier<'a>(
     bytes: &[u8],
     tokens: &'a [Token],
     last: u32,
 ) -> Result<(Quantifier, &'a [Token]), LitmusError>
-    ensures is { Answers (λ x. (x.0, lexemes bytes.now x.1.now)) result (quantifier_at last (lexemes bytes.now tokens.now)) }
+    ensures is { Answers (λ x. (x.0, lexemes bytes.now x.1.now)) result
+        (quantifier_at last (lexemes bytes.now tokens.now)) }
     ensures few { IfOk result (λ x. length x.1.now ≤ length tokens.now) }
 {
     match tokens {
         [] => Err(bad(LitmusKind::Condition, last)),
         [t, rest @ ..] => {
-            if is(TokenKind::Tilde, t) {
+            if t.is(TokenKind::Tilde) {
                 behind_tilde(bytes, rest, last)
-            } else if is_word(bytes, t, b"exists") {
+            } else if t.is_word(bytes, b"exists") {
                 Ok((Quantifier::Exists, rest))
-            } else if is_word(bytes, t, b"forall") {
+            } else if t.is_word(bytes, b"forall") {
                 Err(bad(LitmusKind::Forall, t.line))
             } else {
                 Err(bad(LitmusKind::Condition, t.line))
@@ -121,7 +116,7 @@ pub struct Nest {
     pub depth: u32,
     /// So many of them, from the outermost on, hold a `\/`.
     pub holding: u32,
-    /// The outermost one that began directly behind a `/\`, counted from 1; 0 where none did.
+    /// The outermost one that began directly after a `/\`, counted from 1; 0 where none did.
     pub barred: u32,
     /// So many `\/` stand before.
     pub ors: u32,
@@ -139,7 +134,7 @@ impl Nest {
         }
     }
 
-    /// Inside one more parenthesis, which began directly behind a `/\` or not.
+    /// Inside one more parenthesis, which began directly after a `/\` or not.
     fn opened(self, joined: bool) -> Nest
         requires { self.depth < 16 }
         ensures { result ≡ opened_in joined self }
@@ -155,7 +150,7 @@ impl Nest {
         }
     }
 
-    /// Behind the parenthesis that closes the innermost one.
+    /// After the parenthesis that closes the innermost one.
     fn closed(self) -> Nest
         requires { 0 < self.depth }
         ensures { result ≡ closed_in self }
@@ -179,7 +174,7 @@ impl Nest {
         self.barred == 0 && self.ors < 7
     }
 
-    /// Behind a `\/`.
+    /// After a `\/`.
     fn behind_or(self) -> Nest
         requires { self.ors < 7 }
         ensures { result ≡ behind_or self }
@@ -195,9 +190,9 @@ impl Nest {
 /// Where the reading of an expression stands.
 #[derive(Clone, Copy, PartialEq, Eq)]
 pub enum Place {
-    /// A term must stand here, directly behind a `/\` or not.
+    /// A term must stand here, directly after a `/\` or not.
     Term(bool),
-    /// Behind a term, one in parentheses that holds a `\/` or not.
+    /// After a term, one in parentheses that holds a `\/` or not.
     Behind(bool),
     /// In an atom, of which so many slots are filled.
     Atom(usize, Found),
@@ -238,14 +233,14 @@ fn next_is(bytes: &[u8], kind: TokenKind, next: &[Token]) -> bool
 {
     match next {
         [] => false,
-        [t, ..] => is(kind, t),
+        [t, ..] => t.is(kind),
     }
 }
 
 fn is_memory(bytes: &[u8], t: &Token, next: &[Token]) -> bool
     ensures { result ≡ is_memory (lexeme_of bytes.now t.now) (lexemes bytes.now next.now) }
 {
-    is(TokenKind::LeftSquare, t) || is(TokenKind::Name, t) && next_is(bytes, TokenKind::Equal, next)
+    t.is(TokenKind::LeftSquare) || t.is(TokenKind::Name) && next_is(bytes, TokenKind::Equal, next)
 }
 
 /// What a `\/` leads to.
@@ -263,20 +258,20 @@ fn at_or(bytes: &[u8], nest: Nest) -> Step
 fn behind_term(bytes: &[u8], mixed: bool, nest: Nest, t: &Token) -> Step
     ensures { step_of bytes.now result ≡ behind_term mixed nest (lexeme_of bytes.now t.now) }
 {
-    if is(TokenKind::Both, t) {
+    if t.is(TokenKind::Both) {
         return if mixed {
             Step::Fails(LitmusKind::Disjunction)
         } else {
             Step::Goes(Place::Term(true), nest)
         };
     }
-    if is(TokenKind::Either, t) {
+    if t.is(TokenKind::Either) {
         return at_or(bytes, nest);
     }
     if nest.depth == 0 {
         return Step::Fails(LitmusKind::Trailing);
     }
-    if is(TokenKind::Right, t) {
+    if t.is(TokenKind::Right) {
         Step::Goes(Place::Behind(nest.depth <= nest.holding), nest.closed())
     } else {
         Step::Fails(LitmusKind::Condition)
@@ -285,7 +280,8 @@ fn behind_term(bytes: &[u8], mixed: bool, nest: Nest, t: &Token) -> Step
 
 /// In an atom of which so many slots are filled.
 fn in_atom(bytes: &[u8], nest: Nest, filled: usize, t: &Token, found: Found) -> Step
-    ensures { step_of bytes.now result ≡ in_atom nest (drop filled atom_slots) (lexeme_of bytes.now t.now) (found_of bytes.now found) }
+    ensures { step_of bytes.now result ≡ in_atom nest (drop filled atom_slots) (lexeme_of bytes.now t.now)
+        (found_of bytes.now found) }
 {
     for i in filled..ATOM.len() {
         match ATOM[i].fill(bytes, t, found) {
@@ -310,10 +306,10 @@ fn in_atom(bytes: &[u8], nest: Nest, filled: usize, t: &Token, found: Found) -> 
 fn at_term(bytes: &[u8], joined: bool, nest: Nest, t: &Token, next: &[Token]) -> Step
     ensures { step_of bytes.now result ≡ at_term joined nest (lexeme_of bytes.now t.now) (lexemes bytes.now next.now) }
 {
-    if is(TokenKind::Number, t) {
+    if t.is(TokenKind::Number) {
         return in_atom(bytes, nest, 0, t, Found::nothing());
     }
-    if is(TokenKind::Left, t) {
+    if t.is(TokenKind::Left) {
         return if nest.depth < 16 {
             Step::Goes(Place::Term(false), nest.opened(joined))
         } else {
@@ -328,7 +324,8 @@ fn at_term(bytes: &[u8], joined: bool, nest: Nest, t: &Token, next: &[Token]) ->
 }
 
 fn step_at(bytes: &[u8], place: Place, nest: Nest, t: &Token, next: &[Token]) -> Step
-    ensures { step_of bytes.now result ≡ step (place_of bytes.now place) nest (lexeme_of bytes.now t.now) (lexemes bytes.now next.now) }
+    ensures { step_of bytes.now result ≡ step (place_of bytes.now place) nest (lexeme_of bytes.now t.now)
+        (lexemes bytes.now next.now) }
 {
     match place {
         Place::Term(joined) => at_term(bytes, joined, nest, t, next),

@@ -1,14 +1,16 @@
-// The first line and the header.
+//! The first line and the header.
 ghost use Rattle.std.specs.Prelude.{ℕ, suc, List, [], ◌≡◌, ◌≤◌, ◌<◌, ◌+◌, ◌&&◌, ◌==◌, length, take, drop, map, option_map, IfOk, IfSome};
+ghost use Rattle.std.specs.Char.{is_ascii_graphic};
 ghost use Rattle.std.specs.List.{list_all, list_any, slice_split};
 ghost use Rattle.x86_subset.specs.Token.{is_blank, close_end, begins, spot, start, after_bytes};
-ghost use Rattle.litmus_reader.specs.Front.{line_len, words, is_x86, is_printed, name_of, first_line, is_key, is_star, quote_end, skip_to, item_at, rest_at, head};
+ghost use Rattle.litmus_reader.specs.Front.{line_len, words, is_x86, name_of, first_line, is_equal, is_key, is_star, quote_end, skip_to, item_at, rest_at, head};
 ghost use Rattle.litmus_reader.specs.Outcome.{Answers};
+ghost use Rattle.perp_base.specs.declared.limits.TheConstants.{MOST_BYTES};
 
 use crate::kind::{LitmusError, LitmusKind, bad};
 use perp_base::Name;
 use std::alloc::{AllocError, Global};
-use x86_subset::{close_end, is_blank, is_letter, is_next, next_line};
+use x86_subset::{close_end, is_blank, is_next, next_line};
 
 /// How many bytes the line at the front has, its end among them.
 pub fn line_len(bytes: &[u8]) -> usize
@@ -45,9 +47,9 @@ fn words<'a>(alloc: Global, line: &'a [u8]) -> Result<Vec<&'a [u8]>, AllocError>
 }
 
 fn is_printed(bytes: &[u8]) -> bool
-    ensures { result ≡ list_all is_printed bytes.now }
+    ensures { result ≡ list_all is_ascii_graphic bytes.now }
 {
-    bytes.iter().all(|b| 33 <= *b && *b <= 126)
+    bytes.iter().all(|b| b.is_ascii_graphic())
 }
 
 fn is_x86(words: &[&[u8]]) -> bool
@@ -71,7 +73,8 @@ fn name_of<'a>(words: &[&'a [u8]]) -> Option<&'a [u8]>
 /// The test's name, and where the header begins.
 #[tactic(auto, unfolding(crate::specs::Front::first_line))]
 pub fn first_line(alloc: Global, bytes: &[u8]) -> Result<(Name, usize), LitmusError>
-    ensures is { Answers (λ x. (x.0, rest_at (after_bytes start (take x.1 bytes.now)) (drop x.1 bytes.now))) result (first_line bytes.now) }
+    ensures is { Answers (λ x. (x.0, rest_at (after_bytes start (take x.1 bytes.now)) (drop x.1 bytes.now))) result
+        (first_line bytes.now) }
     ensures within { IfOk result (λ x. x.1 ≤ length bytes.now) }
 {
     let len = line_len(bytes);
@@ -85,7 +88,7 @@ pub fn first_line(alloc: Global, bytes: &[u8]) -> Result<(Name, usize), LitmusEr
     }
 }
 
-/// What begins at a byte of the header: so many bytes behind it are skipped, or the initial state
+/// What begins at a byte of the header: so many bytes after it are skipped, or the initial state
 /// begins, or nothing that is known.
 #[derive(Clone, Copy, PartialEq, Eq)]
 pub enum Item {
@@ -107,7 +110,7 @@ fn quote_end(bytes: &[u8]) -> Option<usize>
 }
 
 fn has_equal(line: &[u8]) -> bool
-    ensures { result ≡ list_any (λ c. c == 61) line.now }
+    ensures { result ≡ list_any is_equal line.now }
 {
     line.iter().any(|c| *c == b'=')
 }
@@ -115,11 +118,11 @@ fn has_equal(line: &[u8]) -> bool
 fn is_key(b: u8, line: &[u8]) -> bool
     ensures { result ≡ is_key b line.now }
 {
-    is_letter(b) && has_equal(line)
+    b.is_ascii_alphabetic() && has_equal(line)
 }
 
 fn comment_item(next: &[u8]) -> Item
-    requires { length next.now ≤ 65536 }
+    requires { length next.now ≤ MOST_BYTES }
     ensures { result ≡ skip_to (option_map suc (close_end next.now)) }
 {
     match close_end(next) {
@@ -139,7 +142,7 @@ fn quote_item(next: &[u8]) -> Item
 
 #[tactic(auto, unfolding(crate::specs::Front::item_at))]
 fn item_at(b: u8, next: &[u8]) -> Item
-    requires { length next.now ≤ 65536 }
+    requires { length next.now ≤ MOST_BYTES }
     ensures { result ≡ item_at b next.now }
 {
     if is_blank(b) {
@@ -162,13 +165,14 @@ fn item_at(b: u8, next: &[u8]) -> Item
     }
 }
 
-/// Behind the brace that ends the header, and its line.
+/// After the brace that ends the header, and its line.
 pub fn head(bytes: &[u8], from: usize, line: u32, last: u32) -> Result<(usize, u32), LitmusError>
-    requires few { length bytes.now ≤ 65536 }
+    requires few { length bytes.now ≤ MOST_BYTES }
     requires within { from ≤ length bytes.now }
     requires line { line ≤ from + 1 }
     requires spot { spot from line ≡ after_bytes start (take from bytes.now) }
-    ensures is { Answers (λ x. rest_at (spot x.0 x.1) (drop x.0 bytes.now)) result (head last 0 (spot from line) (drop from bytes.now)) }
+    ensures is { Answers (λ x. rest_at (spot x.0 x.1) (drop x.0 bytes.now)) result
+        (head last 0 (spot from line) (drop from bytes.now)) }
     ensures some { IfOk result (λ x. 0 < x.0) }
     ensures within { IfOk result (λ x. x.0 ≤ length bytes.now) }
     ensures spot { IfOk result (λ x. spot x.0 x.1 ≡ after_bytes start (take x.0 bytes.now)) }

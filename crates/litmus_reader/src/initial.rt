@@ -1,4 +1,4 @@
-// The initial state.
+//! The initial state.
 ghost use Rattle.std.specs.Prelude.{ℕ, List, [], ◌≡◌, ◌≤◌, length, IfOk};
 ghost use Rattle.x86_subset.specs.Form.{lexeme_of, lexemes, meaning};
 ghost use Rattle.litmus_reader.specs.Answer.{line_at};
@@ -6,7 +6,7 @@ ghost use Rattle.litmus_reader.specs.Initial.{item_rows, ends_item, judge, items
 ghost use Rattle.litmus_reader.specs.Outcome.{Answers};
 
 use crate::kind::{LitmusError, LitmusKind, bad};
-use x86_subset::{Slot, Token, TokenKind, is, whole};
+use x86_subset::{Slot, Token, TokenKind, whole};
 
 const LOCATION: [Slot; 4] = [
     Slot::Location,
@@ -93,10 +93,10 @@ fn judge(bytes: &[u8], item: &[Token]) -> Result<(), LitmusError>
 fn ends_item(bytes: &[u8], t: &Token) -> bool
     ensures { result ≡ ends_item (lexeme_of bytes.now t.now) }
 {
-    is(TokenKind::Semi, t) || is(TokenKind::RightBrace, t)
+    t.is(TokenKind::Semi) || t.is(TokenKind::RightBrace)
 }
 
-/// The tokens behind the closing brace of the initial state.
+/// The tokens after the closing brace of the initial state.
 pub fn items<'a>(bytes: &[u8], tokens: &'a [Token], last: u32) -> Result<&'a [Token], LitmusError>
     ensures is { Answers (λ ts. lexemes bytes.now ts.now) result (items last [] (lexemes bytes.now tokens.now)) }
     ensures few { IfOk result (λ ts. length ts.now ≤ length tokens.now) }
@@ -104,11 +104,8 @@ pub fn items<'a>(bytes: &[u8], tokens: &'a [Token], last: u32) -> Result<&'a [To
     let mut start = 0;
     for (i, t) in tokens.iter().enumerate() {
         if ends_item(bytes, t) {
-            match judge(bytes, &tokens[start..i]) {
-                Err(e) => return Err(e),
-                Ok(()) => {}
-            }
-            if is(TokenKind::RightBrace, t) {
+            judge(bytes, &tokens[start..i])?;
+            if t.is(TokenKind::RightBrace) {
                 return Ok(&tokens[i + 1..]);
             }
             start = i + 1;

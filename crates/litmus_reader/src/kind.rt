@@ -1,4 +1,4 @@
-// Why a text is no litmus test.
+//! Why a text is no litmus test.
 ghost use Rattle.std.specs.Prelude.{◌≡◌, ◌≤◌};
 ghost use Rattle.litmus_reader.specs.declared.kind.LitmusError.TheVariants.{Memory};
 ghost use Rattle.litmus_reader.specs.Answer.{kind_number};
@@ -12,7 +12,7 @@ use x86_subset::Shape;
 pub enum LitmusKind {
     /// The first line does not begin with the word `X86`: line 1.
     NotX86,
-    /// The first line has no name behind it that is one word of printed ASCII, or the header has something else than
+    /// The first line has no name after it that is one word of printed ASCII, or the header has something else than
     /// quoted texts, comments and lines with an `=`.
     Header,
     /// An item of the initial state has none of the forms, or the state is not closed.
@@ -33,7 +33,7 @@ pub enum LitmusKind {
     MemoryCondition,
     /// A term that holds a `\/` has a `/\` beside it, or a ninth conjunction begins.
     Disjunction,
-    /// Something stands behind the condition.
+    /// Something stands after the condition.
     Trailing,
 }
 

@@ -3,8 +3,8 @@
 //! What a text is read as is the relation `Reads text answer` (`specs/Reading`), which follows the format section by
 //! section. The clauses `reads` and `refuses` of `read_litmus` say that its answer is what the text is read as, and the
 //! clause `only` that the text is read as nothing else; want of memory alone is free. The clause of `one_reading` says
-//! that each text, of any length, is read as exactly one answer. The clause of `names_are_ascii` says that a text that is
-//! read as a test names it and its locations in ASCII.
+//! that each text, of any length, is read as exactly one answer. The clause of `names_are_ascii` says that a text that
+//! is read as a test names it and its locations in ASCII.
 #![tactic(auto)]
 
 mod condition;

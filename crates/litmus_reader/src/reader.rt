@@ -1,4 +1,4 @@
-// The reading of a whole text.
+//! The reading of a whole text.
 ghost use Rattle.std.specs.Prelude.{ℕ, List, ◌≡◌, ◌≤◌, ◌<◌, ◌+◌, length, All, IfOk, IfErr};
 ghost use Rattle.std.specs.Str.{IsAscii};
 ghost use Rattle.x86_subset.specs.Form.{lexemes};
@@ -9,6 +9,7 @@ ghost use Rattle.x86_subset.specs.Shape.{if_within_limits};
 ghost use Rattle.litmus_reader.specs.Reading.{Reads, tokens_at, sections_at, read_text};
 ghost use Rattle.litmus_reader.specs.Draft.{draft_of, IsFit, IsMade};
 ghost use Rattle.litmus_reader.specs.Answered.{IfAnswered, RefusesText};
+ghost use Rattle.perp_base.specs.declared.limits.TheConstants.{MOST_BYTES};
 
 use crate::condition::{Joined, expression, quantifier, section};
 use crate::front::{first_line, head};
@@ -30,7 +31,7 @@ pub struct Draft {
 
 /// The number of the last line.
 fn last_line(bytes: &[u8]) -> u32
-    requires { length bytes.now ≤ 65536 }
+    requires { length bytes.now ≤ MOST_BYTES }
     ensures { result ≡ last_line bytes.now }
 {
     if bytes.is_empty() {
@@ -39,7 +40,7 @@ fn last_line(bytes: &[u8]) -> u32
     line_behind(&bytes[..bytes.len() - 1])
 }
 
-/// The sections of the tokens behind the first brace.
+/// The sections of the tokens after the first brace.
 #[tactic(auto, unfolding(crate::specs::Reading::tokens_at))]
 fn sections(
     alloc: Global,
@@ -99,7 +100,7 @@ fn test_of(alloc: Global, bytes: &[u8], draft: Draft) -> Result<Test, LitmusErro
 /// The whole text, before its limits are tested.
 #[tactic(auto, unfolding(crate::specs::Reading::sections_at))]
 fn read(alloc: Global, bytes: &[u8]) -> Result<Draft, LitmusError>
-    requires { length bytes.now ≤ 65536 }
+    requires { length bytes.now ≤ MOST_BYTES }
     ensures { Answers (draft_of bytes.now) result (sections_at bytes.now) }
 {
     let last = last_line(bytes);
@@ -112,7 +113,7 @@ fn read(alloc: Global, bytes: &[u8]) -> Result<Draft, LitmusError>
 
 /// The whole text, with its limits.
 fn tested(alloc: Global, bytes: &[u8]) -> Result<Test, LitmusError>
-    requires { length bytes.now ≤ 65536 }
+    requires { length bytes.now ≤ MOST_BYTES }
     ensures { IfAnswered result (λ answer. read_text bytes.now ≡ answer) }
 {
     let draft = read(alloc, bytes)?;
@@ -122,7 +123,7 @@ fn tested(alloc: Global, bytes: &[u8]) -> Result<Test, LitmusError>
 /// Reads a litmus test of at most 65,536 bytes. `Bad` tells the first kind that reading from the front meets, with
 /// the number of its line from 1; `Over` tells the first limit that a whole test passes.
 pub fn read_litmus(alloc: Global, bytes: &[u8]) -> Result<Test, LitmusError>
-    requires few { length bytes.now ≤ 65536 }
+    requires few { length bytes.now ≤ MOST_BYTES }
     ensures reads { IfOk result (λ test. Reads bytes.now (Accepted test)) }
     ensures refuses { IfErr result (RefusesText bytes.now) }
     // So each answer comes exactly where the text is read so, unless memory ran out.

@@ -1,18 +1,18 @@
-// The rows of the code.
+//! The rows of the code.
 ghost use Rattle.std.specs.Prelude.{ℕ, List, [], ◌≡◌, ◌==◌, ◌&&◌, ◌≤◌, ◌<◌, ◌+◌, length, map, position, bytes_eq, IfOk, OnOk, OnErr, Ok};
 ghost use Rattle.x86_subset.specs.Form.{lexeme_of, lexemes};
 ghost use Rattle.x86_subset.specs.Cell.{location_number, having};
 ghost use Rattle.x86_subset.specs.Raw.{bytes_at, form_of};
-ghost use Rattle.litmus_reader.specs.Rows.{act, body_of, cell_at, cells_at, row_of, rows_at, ends_code, is_column, are_columns, no_code, columns_in, columns_at};
+ghost use Rattle.litmus_reader.specs.Rows.{act, column_code, cell_at, cells_at, row_of, rows_at, ends_code, is_column, are_columns, no_code, columns_in, columns_at};
 ghost use Rattle.std.specs.List.{slice_split};
 ghost use Rattle.litmus_reader.specs.Sheet.{names, sheet_of, Leaves, is_bar};
 ghost use Rattle.litmus_reader.specs.Outcome.{Answers};
+ghost use Rattle.perp_base.specs.declared.limits.TheConstants.{MOST_BYTES};
 
-use crate::condition::is_word;
 use crate::initial::line_at;
 use crate::kind::{LitmusError, LitmusKind, bad};
 use std::alloc::{AllocError, Global};
-use x86_subset::{Body, Instr, Raw, Span, Token, TokenKind, is, parse_instr, text_at};
+use x86_subset::{Body, Instr, Raw, Span, Token, TokenKind, parse_instr, text_at};
 
 /// The threads, as far as they are read.
 #[derive(Drop)]
@@ -22,7 +22,7 @@ pub struct Sheet {
 }
 
 /// Where a location of these bytes stands among the others.
-fn place_of(bytes: &[u8], locations: &[Span], x: &[u8]) -> Option<usize>
+fn place_in(bytes: &[u8], locations: &[Span], x: &[u8]) -> Option<usize>
     ensures { result ≡ position (λ y. bytes_eq (bytes_at bytes.now y) x.now) locations.now }
 {
     locations.iter().position(|y| text_at(bytes, *y) == x)
@@ -31,13 +31,15 @@ fn place_of(bytes: &[u8], locations: &[Span], x: &[u8]) -> Option<usize>
 impl Sheet {
     /// The number of a location. A new one comes last.
     fn number(&mut self, bytes: &[u8], x: Span) -> Result<u32, AllocError>
-        requires { length self.old.locations.items < 65536 }
-        ensures number { IfOk result (λ n. n ≡ location_number (names bytes.now self.old.locations.items) (bytes_at bytes.now x)) }
-        ensures locations { OnOk result (names bytes.now self.new.locations.items ≡ having (names bytes.now self.old.locations.items) (bytes_at bytes.now x)) }
+        requires { length self.old.locations.items < MOST_BYTES }
+        ensures number { IfOk result (λ n. n ≡ location_number (names bytes.now self.old.locations.items)
+            (bytes_at bytes.now x)) }
+        ensures locations { OnOk result (names bytes.now self.new.locations.items
+            ≡ having (names bytes.now self.old.locations.items) (bytes_at bytes.now x)) }
         ensures bodies { self.new.bodies ≡ self.old.bodies }
         ensures room { length self.new.locations.items ≤ length self.old.locations.items + 1 }
     {
-        match place_of(bytes, &self.locations, text_at(bytes, x)) {
+        match place_in(bytes, &self.locations, text_at(bytes, x)) {
             Some(i) => Ok(i as u32),
             None => {
                 let n = self.locations.len();
@@ -50,8 +52,9 @@ impl Sheet {
     /// What a form does in the column `i`.
     fn act(&mut self, bytes: &[u8], i: usize, raw: Raw, line: u32) -> Result<(), LitmusError>
         requires column { i < length self.old.bodies.items }
-        requires room { length self.old.locations.items < 65536 }
-        ensures is { Leaves result (sheet_of bytes.now self.new) (act i (sheet_of bytes.now self.old) (Ok (form_of bytes.now raw)) line) }
+        requires room { length self.old.locations.items < MOST_BYTES }
+        ensures is { Leaves result (sheet_of bytes.now self.new) (act i (sheet_of bytes.now self.old)
+            (Ok (form_of bytes.now raw)) line) }
         ensures columns { length self.new.bodies.items ≡ length self.old.bodies.items }
         ensures room { length self.new.locations.items ≤ length self.old.locations.items + 1 }
     {
@@ -101,8 +104,9 @@ impl Sheet {
     #[tactic(auto, unfolding(crate::specs::Rows::cell_at))]
     fn cell(&mut self, bytes: &[u8], i: usize, cell: &[Token]) -> Result<(), LitmusError>
         requires column { i < length self.old.bodies.items }
-        requires room { length self.old.locations.items < 65536 }
-        ensures is { Leaves result (sheet_of bytes.now self.new) (cell_at i (sheet_of bytes.now self.old) (lexemes bytes.now cell.now)) }
+        requires room { length self.old.locations.items < MOST_BYTES }
+        ensures is { Leaves result (sheet_of bytes.now self.new) (cell_at i (sheet_of bytes.now self.old)
+            (lexemes bytes.now cell.now)) }
         ensures columns { length self.new.bodies.items ≡ length self.old.bodies.items }
         ensures room { length self.new.locations.items ≤ length self.old.locations.items + 1 }
     {
@@ -116,16 +120,14 @@ impl Sheet {
     /// Reads the cells of a row.
     fn cells(&mut self, bytes: &[u8], cells: &[&[Token]]) -> Result<(), LitmusError>
         requires columns { length cells.now ≤ length self.old.bodies.items }
-        requires room { length self.old.locations.items + length cells.now ≤ 65536 }
-        ensures is { Leaves result (sheet_of bytes.now self.new) (cells_at 0 (sheet_of bytes.now self.old) (map (λ c. lexemes bytes.now c.now) cells.now)) }
+        requires room { length self.old.locations.items + length cells.now ≤ MOST_BYTES }
+        ensures is { Leaves result (sheet_of bytes.now self.new) (cells_at 0 (sheet_of bytes.now self.old)
+            (map (λ c. lexemes bytes.now c.now) cells.now)) }
         ensures columns { length self.new.bodies.items ≡ length self.old.bodies.items }
         ensures room { length self.new.locations.items ≤ length self.old.locations.items + length cells.now }
     {
         for (i, c) in cells.iter().enumerate() {
-            match self.cell(bytes, i, c) {
-                Err(e) => return Err(e),
-                Ok(()) => {}
-            }
+            self.cell(bytes, i, c)?;
         }
         Ok(())
     }
@@ -138,8 +140,9 @@ impl Sheet {
         line: u32,
         row: &[Token],
     ) -> Result<(), LitmusError>
-        requires room { length self.old.locations.items + length row.now < 65536 }
-        ensures is { Leaves result (sheet_of bytes.now self.new) (row_of line (sheet_of bytes.now self.old) (lexemes bytes.now row.now)) }
+        requires room { length self.old.locations.items + length row.now < MOST_BYTES }
+        ensures is { Leaves result (sheet_of bytes.now self.new) (row_of line (sheet_of bytes.now self.old)
+            (lexemes bytes.now row.now)) }
         ensures columns { length self.new.bodies.items ≡ length self.old.bodies.items }
         ensures room { length self.new.locations.items ≤ length self.old.locations.items + length row.now + 1 }
     {
@@ -161,7 +164,8 @@ impl Sheet {
     ) -> Result<&'a [Token], LitmusError>
         requires few { length tokens.now ≤ 65535 }
         requires new { self.old.locations.items ≡ [] }
-        ensures is { Answers (λ ts. (sheet_of bytes.now self.new, lexemes bytes.now ts.now)) result (rows_at last (sheet_of bytes.now self.old) [] (lexemes bytes.now tokens.now)) }
+        ensures is { Answers (λ ts. (sheet_of bytes.now self.new, lexemes bytes.now ts.now)) result
+            (rows_at last (sheet_of bytes.now self.old) [] (lexemes bytes.now tokens.now)) }
         ensures few { IfOk result (λ ts. length ts.now ≤ length tokens.now) }
         ensures columns { length self.new.bodies.items ≡ length self.old.bodies.items }
     {
@@ -170,11 +174,8 @@ impl Sheet {
             if ends_here(bytes, start, i, t) {
                 return Ok(&tokens[i..]);
             }
-            if is(TokenKind::Semi, t) {
-                match self.row(alloc, bytes, t.line, &tokens[start..i]) {
-                    Err(e) => return Err(e),
-                    Ok(()) => {}
-                }
+            if t.is(TokenKind::Semi) {
+                self.row(alloc, bytes, t.line, &tokens[start..i])?;
                 start = i + 1;
             }
         }
@@ -190,16 +191,16 @@ impl Sheet {
 fn cells_of<'a>(alloc: Global, row: &'a [Token]) -> Result<Vec<&'a [Token]>, AllocError>
     ensures { IfOk result (λ cs. map (λ c. c.now) cs.items ≡ slice_split is_bar row.now) }
 {
-    row.split(|t| is(TokenKind::Bar, t)).collect(alloc)
+    row.split(|t| t.is(TokenKind::Bar)).collect(alloc)
 }
 
 fn ends_code(bytes: &[u8], t: &Token) -> bool
     ensures { result ≡ ends_code (lexeme_of bytes.now t.now) }
 {
-    is(TokenKind::Tilde, t)
-        || is_word(bytes, t, b"exists")
-        || is_word(bytes, t, b"forall")
-        || is_word(bytes, t, b"locations")
+    t.is(TokenKind::Tilde)
+        || t.is_word(bytes, b"exists")
+        || t.is_word(bytes, b"forall")
+        || t.is_word(bytes, b"locations")
 }
 
 /// A row begins at this token, and the token ends the code.
@@ -216,7 +217,7 @@ fn is_column(alloc: Global, bytes: &[u8], i: usize, cell: &[Token]) -> Result<bo
     match cell {
         [t] => {
             let name = format!(in alloc; "P{i}")?;
-            Ok(is_word(bytes, t, name.as_bytes()))
+            Ok(t.is_word(bytes, name.as_bytes()))
         }
         _ => Ok(false),
     }
@@ -256,7 +257,8 @@ fn first_row<'a>(
     t: &Token,
     rest: &'a [Token],
 ) -> Result<(Sheet, &'a [Token]), LitmusError>
-    ensures is { Answers (λ x. (sheet_of bytes.now x.0, lexemes bytes.now x.1.now)) result (columns_in (lexemes bytes.now row.now) (lexeme_of bytes.now t.now) (lexemes bytes.now rest.now)) }
+    ensures is { Answers (λ x. (sheet_of bytes.now x.0, lexemes bytes.now x.1.now)) result
+        (columns_in (lexemes bytes.now row.now) (lexeme_of bytes.now t.now) (lexemes bytes.now rest.now)) }
     ensures new { IfOk result (λ x. x.0.locations.items ≡ []) }
     ensures rest { IfOk result (λ x. x.1.now ≡ rest.now) }
 {
@@ -268,19 +270,20 @@ fn first_row<'a>(
     }
 }
 
-/// The threads that the first row names, without code, and the tokens behind it.
+/// The threads that the first row names, without code, and the tokens after it.
 pub fn columns<'a>(
     alloc: Global,
     bytes: &[u8],
     tokens: &'a [Token],
     last: u32,
 ) -> Result<(Sheet, &'a [Token]), LitmusError>
-    ensures is { Answers (λ x. (sheet_of bytes.now x.0, lexemes bytes.now x.1.now)) result (columns_at last [] (lexemes bytes.now tokens.now)) }
+    ensures is { Answers (λ x. (sheet_of bytes.now x.0, lexemes bytes.now x.1.now)) result
+        (columns_at last [] (lexemes bytes.now tokens.now)) }
     ensures new { IfOk result (λ x. x.0.locations.items ≡ []) }
     ensures rest { IfOk result (λ x. length x.1.now ≤ length tokens.now) }
 {
     for (i, t) in tokens.iter().enumerate() {
-        if is(TokenKind::Semi, t) {
+        if t.is(TokenKind::Semi) {
             return first_row(alloc, bytes, &tokens[..i], t, &tokens[i + 1..]);
         }
     }

@@ -1,3 +1,4 @@
+//! Texts that are tests, and texts that are refused, each for its kind and at its line.
 use super::*;
 use crate::kind::bad;
 use std::alloc::{AllocError, Global};

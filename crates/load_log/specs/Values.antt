@@ -1,5 +1,5 @@
--- What contracts see of a log and of the logs of a run: this project's own layout. In contracts an iteration's values stand together, one for each
--- column; in memory the columns stand apart.
+-- What contracts see of a log and of the logs of a run: this project's own layout. In contracts an iteration's values
+-- stand together, one for each column; in memory the columns stand apart.
 use Rattle.std.specs.Prelude.{◌≡◌, ℕ, ◌+◌, ◌-◌, ◌*◌, ◌/◌, ◌%◌, ◌<◌, ◌≤◌, All, Bool, List, MatchBool, [], false, length, map, slice_index, slice_index_or}
 use Rattle.std.specs.List.{range_with_len}
 
@@ -14,29 +14,37 @@ pub record Lists : Type 0 where
   pub logs : List Values
   pub spare : ℕ
 
--- the first `count` values by iteration and then by column, where each column stands apart in the words and has `rows` of them
+-- the first `count` values by iteration and then by column, where each column stands apart in the words and has `rows`
+-- of them
 unfoldable pub by_iteration : ℕ → ℕ → List ℕ → ℕ → List ℕ
-by_iteration columns rows words count = map (λ i. slice_index words (i % columns * rows + i / columns)) (range_with_len 0 count)
+by_iteration columns rows words count =
+    map (λ i. slice_index words (i % columns * rows + i / columns)) (range_with_len 0 count)
 
 -- what contracts see of such words
-abbrev pub seen : ℕ → ℕ → List ℕ → ℕ → Values
-seen columns rows words count = record { columns = columns; values = by_iteration columns rows words count; spare = columns * rows - count }
+abbrev pub words_seen : ℕ → ℕ → List ℕ → ℕ → Values
+words_seen columns rows words count = record {
+  columns = columns;
+  values = by_iteration columns rows words count;
+  spare = columns * rows - count;
+}
 
 -- no value of a column is below that of an earlier iteration
 abbrev pub Rises : Values → ℕ → Type 0
-Rises log column = (i j : ℕ) → i ≤ j → j * log.columns + column < length log.values → slice_index log.values (i * log.columns + column) ≤ slice_index log.values (j * log.columns + column)
+Rises log column =
+    (i j : ℕ) → i ≤ j → j * log.columns + column < length log.values
+    → slice_index log.values (i * log.columns + column) ≤ slice_index log.values (j * log.columns + column)
 
 -- some value of a column is below that of the iteration before
 abbrev pub Falls : Values → ℕ → Type 0
-Falls log column = (n : ℕ) × ((n + 1) * log.columns + column < length log.values) × (slice_index log.values ((n + 1) * log.columns + column) < slice_index log.values (n * log.columns + column))
+Falls log column =
+    (n : ℕ) × ((n + 1) * log.columns + column < length log.values)
+    × (slice_index log.values ((n + 1) * log.columns + column) < slice_index log.values (n * log.columns + column))
 
 -- each column has a flag, which says whether it rises
 abbrev pub AreMarked : List Bool → Values → Type 0
-AreMarked flags log = (column : ℕ) → column < log.columns → MatchBool (slice_index_or flags column false) (Rises log column) (Falls log column)
-
--- the most columns of a log
-abbrev pub most_columns : ℕ
-most_columns = 16
+AreMarked flags log =
+    (column : ℕ) → column < log.columns → MatchBool (slice_index_or flags column false) (Rises log column)
+    (Falls log column)
 
 -- the log of a thread; an empty one past the last
 abbrev pub log_at : List Values → ℕ → Values

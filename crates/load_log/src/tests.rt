@@ -1,4 +1,4 @@
-// One log by rows and by columns, and the logs of two threads.
+//! One log by rows and by columns, and the logs of two threads.
 use super::*;
 use std::test::Fail;
 

@@ -1,20 +1,22 @@
--- Behind the last store of the last iteration no store is written.
+-- After the last store of the last iteration no store is written.
 use Rattle.std.proofs.Common.{◌≡◌, ℕ, ◌<◌, ◌≤◌, ◌==◌, ◌&&◌, Bool, true, false, List, refl, arith}
 use Rattle.std.proofs.lemmas.Bool.{and_parts, eqb-true}
 use Rattle.x86_subset.specs.Test.{LitmusTest}
-use Rattle.seq_conv.specs.Event.{Event}
-use Rattle.seq_conv.specs.Run.{IsRunOf}
-use Rattle.seq_conv.specs.Source.{is_memory_kind}
+use Rattle.tso_machine.specs.Event.{Event}
+use Rattle.tso_machine.specs.Run.{IsRunOf}
+use Rattle.tso_machine.specs.Source.{is_memory_kind}
 use Rattle.seq_conv.specs.declared.site.Origin.{Origin}
-use Rattle.seq_conv.proofs.Lists.{Among, any_none, each_from_among}
-use Rattle.seq_conv.proofs.Parts.{memory_writes, write_stores}
+use Rattle.perp_base.proofs.Lists.{Among, any_none, each_from_among}
+use Rattle.tso_machine.proofs.Parts.{memory_writes, write_stores}
 use Rattle.outcome_conv.specs.Holds.{is_write_of}
 use Rattle.outcome_conv.specs.Laws.{NothingFollowsTheLast}
 
-not_written : (test : LitmusTest) (n : ℕ) (run : List Event) (o : Origin) (e : Event) (b : Bool) → IsRunOf test n run → n ≤ o.iteration → Among e run → is_write_of o e ≡ b → b ≡ false
+not_written : (test : LitmusTest) (n : ℕ) (run : List Event) (o : Origin) (e : Event) (b : Bool) → IsRunOf test n run
+    → n ≤ o.iteration → Among e run → is_write_of o e ≡ b → b ≡ false
 not_written test n run o e false r l a h = refl
 not_written test n run o e true r l a h =
-    let p = and_parts ((is_memory_kind e.kind && (e.thread == o.thread)) && (e.place == o.place)) (e.iteration == o.iteration) h in
+    let p = and_parts ((is_memory_kind e.kind && (e.thread == o.thread)) && (e.place == o.place))
+    (e.iteration == o.iteration) h in
     let q = and_parts (is_memory_kind e.kind && (e.thread == o.thread)) (e.place == o.place) p.0 in
     let k = and_parts (is_memory_kind e.kind) (e.thread == o.thread) q.0 in
     let same : e.iteration ≡ o.iteration = eqb-true e.iteration o.iteration p.1 in
@@ -23,4 +25,5 @@ not_written test n run o e true r l a h =
 
 pub nothing_follows_the_last_lem : NothingFollowsTheLast
 nothing_follows_the_last_lem test n run o r l =
-    any_none (is_write_of o) run (each_from_among (λ e. is_write_of o e ≡ false) run (λ e a. not_written test n run o e (is_write_of o e) r l a refl))
+    any_none (is_write_of o) run (each_from_among (λ e. is_write_of o e ≡ false) run
+    (λ e a. not_written test n run o e (is_write_of o e) r l a refl))

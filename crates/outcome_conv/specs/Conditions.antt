@@ -1,6 +1,6 @@
--- The conditions of a test in numbers (after PerpLE's conversion of outcomes: Melissaris, Markakis, Shaw and Martonosi, MICRO
--- 2020), cut into conjunctions as the test's atoms are. That a location has at most 128 stores comes from this project's own
--- limits, of 8 threads of 16 actions.
+-- The conditions of a test in numbers (after PerpLE's conversion of outcomes: Melissaris, Markakis, Shaw and Martonosi,
+-- MICRO 2020), cut into conjunctions as the test's atoms are. That a location has at most 128 stores comes from this
+-- project's own limits, of 8 threads of 16 actions.
 use Rattle.std.specs.Prelude.{ℕ, ◌<◌, ◌≤◌, List, All, length}
 use Rattle.x86_subset.specs.Conjunctions.{AreEnds}
 use Rattle.x86_subset.specs.Test.{LitmusTest, columns_of}

@@ -1,11 +1,11 @@
--- Laws: what the conditions, the count and the picks in numbers mean in a run of x86-TSO (the counters are after PerpLE:
--- Melissaris, Markakis, Shaw and Martonosi, MICRO 2020).
+-- Laws: what the conditions, the count and the picks in numbers mean in a run of x86-TSO (the counters are after
+-- PerpLE: Melissaris, Markakis, Shaw and Martonosi, MICRO 2020).
 use Rattle.std.specs.Prelude.{◌≡◌, ℕ, ◌<◌, ◌≤◌, Contains, All, false, None, Some, List, Ok, find, length, map}
 use Rattle.x86_subset.specs.Conjunctions.{conjunction_of}
 use Rattle.x86_subset.specs.Test.{LitmusTest, HoldsReads}
 use Rattle.x86_subset.specs.declared.test.Atom.{Atom}
-use Rattle.seq_conv.specs.Event.{Event}
-use Rattle.seq_conv.specs.Run.{IsRunOf}
+use Rattle.tso_machine.specs.Event.{Event}
+use Rattle.tso_machine.specs.Run.{IsRunOf}
 use Rattle.seq_conv.specs.declared.site.Origin.{Origin}
 use Rattle.std.specs.List.{list_any}
 use Rattle.profile_check.specs.Kinds.{AreKinds, kind_of}
@@ -43,7 +43,8 @@ CountsAgree =
     → IsRunOf test n run
     → 1 ≤ n
     → AreKinds test kinds
-    → count_of (logged_in test run) test.ends (conds_of test kinds) n (length test.bodies) ≡ length (hits_of test kinds n run)
+    → count_of (logged_in test run) test.ends (conds_of test kinds) n (length test.bodies)
+    ≡ length (hits_of test kinds n run)
 
 -- law: where the reader is in iteration i, the condition chooses the iteration that the atom chooses
 abbrev pub ChoicesAgree : Type 0
@@ -63,7 +64,8 @@ PicksAgree =
     → IsRunOf test n run
     → i < n
     → AreKinds test kinds
-    → picked_frame (length test.bodies) (conjunction_of test.ends (map (link_by (logged_in test run) n) (conds_of test kinds)) c) i
+    → picked_frame (length test.bodies) (conjunction_of test.ends
+    (map (link_by (logged_in test run) n) (conds_of test kinds)) c) i
     ≡ picked_frame (length test.bodies) (conjunction_of test.ends (map (link_in test n run) kinds) c) i
 
 -- law: and list the hits of the run
@@ -73,7 +75,8 @@ HitsAgree =
     → HoldsReads test
     → IsRunOf test n run
     → AreKinds test kinds
-    → picked_hits_by (logged_in test run) (length test.bodies) n test.ends (conds_of test kinds) ≡ picked_hits test n run kinds
+    → picked_hits_by (logged_in test run) (length test.bodies) n test.ends (conds_of test kinds)
+    ≡ picked_hits test n run kinds
 
 -- law: each listed hit is a hit
 abbrev pub ListedAreHits : Type 0
@@ -84,14 +87,16 @@ ListedAreHits =
     → AreKinds test kinds
     → All (Contains (hits_of test kinds n run)) (picked_hits test n run kinds)
 
--- law: picks end only where no atom is to choose: each atom chooses at most once, so as many choices as there are atoms are enough
+-- law: picks end only where no atom is to choose: each atom chooses at most once, so as many choices as there are atoms
+-- are enough
 abbrev pub PicksAreWhole : Type 0
 PicksAreWhole =
     (links : List Link) (chosen done : Chosen)
     → chosen_by (length links) links chosen ≡ Some done
     → find (is_due done) links ≡ None
 
--- law: in a run of n iterations no store of iteration n or a later one is written, so no write follows the last store of the last one
+-- law: in a run of n iterations no store of iteration n or a later one is written, so no write follows the last store
+-- of the last one
 abbrev pub NothingFollowsTheLast : Type 0
 NothingFollowsTheLast =
     (test : LitmusTest) (n : ℕ) (run : List Event) (o : Origin)

@@ -1,13 +1,13 @@
--- The heuristic frames of a conjunction, and the hits that they find: a cheaper counter after PerpLE's (Melissaris, Markakis, Shaw
--- and Martonosi, MICRO 2020); the rule by which atoms choose is this project's own.
+-- The heuristic frames of a conjunction, and the hits that they find: a cheaper counter after PerpLE's (Melissaris,
+-- Markakis, Shaw and Martonosi, MICRO 2020); the rule by which atoms choose is this project's own.
 use Rattle.std.specs.Prelude.{ℕ, zero, suc, ◌==◌, ◌&&◌, Bool, not, Option, None, Some, List, [], ◌∷◌, ◌++◌, find, filter, is_some, is_none, length, map, nat_eq, option_map, unwrap_or}
 use Rattle.std.specs.List.{filter_map, list_all, list_any, range_with_len}
 use Rattle.std.specs.Cmp.Lexicographic.{pointwise}
 use Rattle.std.specs.Option.{option_and_then, option_map_or}
 use Rattle.x86_subset.specs.Conjunctions.{conjunctions_of}
 use Rattle.x86_subset.specs.Test.{LitmusTest}
-use Rattle.seq_conv.specs.Event.{Event}
-use Rattle.seq_conv.specs.Machine.{updated}
+use Rattle.tso_machine.specs.Event.{Event}
+use Rattle.tso_machine.specs.Machine.{updated}
 use Rattle.profile_check.specs.declared.kind.AtomKind.{AtomKind}
 use Rattle.profile_check.specs.declared.kind.AtomKind.TheVariants.{Rf, Fr, Exact}
 use Rattle.outcome_conv.specs.declared.cond.Cond.{Cond}
@@ -58,12 +58,14 @@ Chosen = ℕ → Option ℕ
 abbrev pub is_due : Chosen → Link → Bool
 is_due chosen link = is_some (chosen link.reader) && is_none (chosen link.writer)
 
--- as long as an atom is to choose, at most so many times, the first one chooses its writer's iteration; None where it finds none
+-- as long as an atom is to choose, at most so many times, the first one chooses its writer's iteration; None where it
+-- finds none
 abbrev pub chosen_by : ℕ → List Link → Chosen → Option Chosen
 chosen_by zero links chosen = Some chosen
 chosen_by (suc steps) links chosen =
     option_map_or
-    (λ link. option_and_then (λ m. chosen_by steps links (updated chosen link.writer (Some m))) (option_and_then link.choice (chosen link.reader)))
+    (λ link. option_and_then (λ m. chosen_by steps links (updated chosen link.writer (Some m)))
+    (option_and_then link.choice (chosen link.reader)))
     (find (is_due chosen) links) (Some chosen)
 
 -- the first thread that reads in one of the atoms
@@ -81,11 +83,14 @@ frame_from threads i chosen = map (λ t. unwrap_or (chosen t) i) (range_with_len
 -- the heuristic frame of iteration i; each atom chooses at most once
 abbrev pub picked_frame : ℕ → List Link → ℕ → Option (List ℕ)
 picked_frame threads links i =
-    option_and_then (λ base. option_map (frame_from threads i) (chosen_by (length links) links (base_takes base i))) (base_of threads links)
+    option_and_then (λ base. option_map (frame_from threads i) (chosen_by (length links) links (base_takes base i)))
+    (base_of threads links)
 
 -- the finds of a conjunction in n iterations: its heuristic frames at which all of its atoms hold
 abbrev pub finds_of : ℕ → ℕ → List Link → List (List ℕ)
-finds_of threads n links = filter (λ frame. list_all (λ link. link.holds frame) links) (filter_map (picked_frame threads links) (range_with_len 0 n))
+finds_of threads n links =
+    filter (λ frame. list_all (λ link. link.holds frame) links)
+    (filter_map (picked_frame threads links) (range_with_len 0 n))
 
 abbrev pub is_among : List (List ℕ) → List ℕ → Bool
 is_among frames frame = list_any (pointwise nat_eq frame) frames
@@ -93,7 +98,8 @@ is_among frames frame = list_any (pointwise nat_eq frame) frames
 -- the finds of one conjunction after the other, without those that an earlier one has too
 abbrev pub listed_from : List (List ℕ) → List (List (List ℕ)) → List (List ℕ)
 listed_from earlier [] = []
-listed_from earlier (finds ∷ rest) = filter (λ frame. not (is_among earlier frame)) finds ++ listed_from (earlier ++ finds) rest
+listed_from earlier (finds ∷ rest) =
+    filter (λ frame. not (is_among earlier frame)) finds ++ listed_from (earlier ++ finds) rest
 
 -- the listed hits of n iterations
 abbrev pub picked_hits_of : ℕ → ℕ → List ℕ → List Link → List (List ℕ)

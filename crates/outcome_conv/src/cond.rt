@@ -3,8 +3,8 @@ ghost use Rattle.std.specs.Prelude.{◌≡◌};
 ghost use Rattle.outcome_conv.specs.Conditions.{IsKind};
 ghost use Rattle.outcome_conv.specs.Conds.{kind_holds};
 
-/// What is asked of a value, where m is the writer's iteration: to be at least k*m + a and of its residue, to be below k*m + 1, or
-/// to be k*m + a.
+/// What is asked of a value, where m is the writer's iteration: to be at least k*m + a and of its residue, to be below
+/// k*m + 1, or to be k*m + a.
 #[derive(Clone, Copy, Debug, PartialEq, Eq)]
 pub enum CondKind {
     AtLeast { k: u64, a: u64 },

@@ -3,6 +3,7 @@ ghost use Rattle.std.specs.Prelude.{◌≡◌, ◌<◌, ◌≤◌, length, slice
 ghost use Rattle.seq_conv.specs.Numbers.{AreOf};
 ghost use Rattle.outcome_conv.specs.Conditions.{IsKind};
 ghost use Rattle.outcome_conv.specs.Conds.{conds_of};
+ghost use Rattle.perp_base.specs.declared.limits.TheConstants.{MOST_CONJUNCTIONS};
 
 use crate::cond::Cond;
 use crate::convert::cond_of;
@@ -58,6 +59,7 @@ impl Conds {
     ghost use Rattle.x86_subset.specs.Conjunctions.{conjunction_of, from_of, to_of};
     ghost use Rattle.outcome_conv.specs.declared.cond.Cond.{Cond};
     ghost use Rattle.outcome_conv.specs.Conditions.{AreConditions, IsOfTest};
+    ghost use Rattle.perp_base.specs.declared.limits.TheConstants.{MOST_CONJUNCTIONS};
 
     /// The conditions of a checked test's atoms, cut as the atoms are. The sequences are those of the test.
     pub fn of(alloc: Global, checked: &Checked, sequences: &Sequences) -> Result<Conds, NoMemory>
@@ -98,7 +100,7 @@ impl Conds {
     /// How many conjunctions there are.
     pub fn conjunctions(&self) -> usize
         ensures value { result ≡ length self.now.ends }
-        ensures few { result ≤ 8 }
+        ensures few { result ≤ MOST_CONJUNCTIONS }
     {
         self.ends.len()
     }
@@ -111,11 +113,7 @@ impl Conds {
         ensures rises { result.from < result.to }
         ensures within { result.to ≤ length self.now.conds }
     {
-        let from = if c == 0 { 0 } else { self.ends[c - 1] };
-        Span {
-            from,
-            to: self.ends[c],
-        }
+        Span::of_conjunction(&self.ends, c)
     }
 
     /// The conditions of a conjunction.

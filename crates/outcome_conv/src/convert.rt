@@ -1,6 +1,5 @@
 //! The condition of an atom.
-ghost use Rattle.std.specs.Prelude.{◌≡◌, ◌<◌, length, slice_get, unwrap_or, Ok};
-ghost use Rattle.x86_subset.specs.Instr.{location_of};
+ghost use Rattle.std.specs.Prelude.{◌≡◌, ◌<◌, length, slice_get, Ok};
 ghost use Rattle.x86_subset.specs.Shape.{IsTest};
 ghost use Rattle.x86_subset.specs.declared.test.Atom.{Atom};
 ghost use Rattle.seq_conv.specs.Numbers.{AreOf};
@@ -12,18 +11,6 @@ use crate::cond::{Cond, CondKind};
 use profile_check::AtomKind;
 use seq_conv::Sequences;
 use x86_subset::{Instr, Test};
-
-/// The location of an action; 0 for a fence, which has none.
-fn location(action: Instr) -> u32
-    ensures { result ≡ unwrap_or (location_of action) 0 }
-{
-    match action {
-        Instr::Store { loc, .. } => loc,
-        Instr::Load { loc, .. } => loc,
-        Instr::Exchange { loc, .. } => loc,
-        Instr::Fence => 0,
-    }
-}
 
 /// The place of the reading action in a column, if the body has that column.
 fn place_read(body: &[Instr], column: u32) -> Option<usize>
@@ -49,7 +36,7 @@ fn location_read(test: &Test, reader: u32, column: u32) -> u32
     let body = test.body(reader as usize);
     let place = place_read(body, column).unwrap_or(0);
     match body.get(place) {
-        Some(action) => location(*action),
+        Some(action) => action.location().unwrap_or(0),
         None => 0,
     }
 }

@@ -42,7 +42,7 @@ pub fn picks_are_whole()
     ensures { PicksAreWhole }
 {}
 
-/// Behind the last store of the last iteration no store is written.
+/// After the last store of the last iteration no store is written.
 pub fn nothing_follows_the_last()
     ensures { NothingFollowsTheLast }
 {}

@@ -1,4 +1,4 @@
-// Conditions at worked values, and those of message passing.
+//! Conditions at worked values, and those of message passing.
 ghost use Rattle.std.specs.Prelude.{◌<◌, IfOk};
 ghost use Rattle.x86_subset.specs.Shape.{IsLocated};
 ghost use Rattle.outcome_conv.specs.Conditions.{IsKind};
@@ -11,7 +11,7 @@ use std::alloc::Global;
 use std::test::Fail;
 use x86_subset::{Atom, Body, Instr, Quantifier, Reg, Span, Test};
 
-// Which of the values 0 to 4 pass where the writer is in iteration m.
+/// Which of the values 0 to 4 pass where the writer is in iteration m.
 fn passing(kind: CondKind, m: u32) -> [bool; 5]
     requires kind { IsKind kind }
     requires iteration { m < 100000 }
@@ -46,7 +46,7 @@ fn conditions_hold_of_values(rt: HostRuntime) -> Result<(), Fail> {
     Ok(())
 }
 
-// `MOV [x],$1`, `MOV [y],$1`.
+/// `MOV [x],$1`, `MOV [y],$1`.
 fn writer(alloc: Global) -> Result<Body, NoMemory>
     ensures { IfOk result (λ body. IsLocated 2 body.actions) }
 {
@@ -56,7 +56,7 @@ fn writer(alloc: Global) -> Result<Body, NoMemory>
     Ok(body)
 }
 
-// `MOV EAX,[y]`, `MOV EBX,[x]`.
+/// `MOV EAX,[y]`, `MOV EBX,[x]`.
 fn reader(alloc: Global) -> Result<Body, NoMemory>
     ensures { IfOk result (λ body. IsLocated 2 body.actions) }
 {
@@ -80,7 +80,7 @@ fn atom(reg: Reg, value: u32) -> Atom {
     }
 }
 
-// `exists (1:EAX=1 \/ 1:EBX=0)` of message passing.
+/// `exists (1:EAX=1 \/ 1:EBX=0)` of message passing.
 fn message_passing(alloc: Global) -> Result<Test, Fail> {
     let locations = vec![in alloc; Name::of(alloc, b"x")?, Name::of(alloc, b"y")?]?;
     let atoms = vec![in alloc; atom(Reg::Eax, 1), atom(Reg::Ebx, 0)]?;

@@ -1,5 +1,7 @@
-pub mod Causes
-pub mod Bytes
-pub mod Memory
 pub mod Adapted
+pub mod Bytes
+pub mod Causes
+pub mod Last
+pub mod Memory
+pub mod Options
 pub mod View

@@ -2,7 +2,8 @@
 use Rattle.std.specs.Prelude.{ℕ, List}
 use Rattle.std.specs.declared.option.Option.{Option}
 
--- the bytes that a source has left, or that a sink was given, where they are told, and how many of its calls have failed
+-- the bytes that a source has left, or that a sink was given, where they are told, and how many of its calls have
+-- failed
 pub record View : Type 0 where
   pub bytes : Option (List ℕ)
   pub faults : ℕ

@@ -1,4 +1,4 @@
-// The two refusals that have nothing more to tell.
+//! The two refusals that have nothing more to tell.
 use std::alloc::{AllocError, AllocFailed};
 
 /// A read or a write failed. It is answered only where the count of faults of the source or sink rose in the call.

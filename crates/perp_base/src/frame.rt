@@ -1,14 +1,15 @@
-// One iteration number for each thread of a test.
+//! One iteration number for each thread of a test.
 ghost use Rattle.std.specs.Prelude.{◌≡◌, ◌<◌, ◌≤◌, ◌++◌, [], ◌∷◌, length, nat_eq, replicate, slice_index, slice_set};
 ghost use Rattle.std.specs.Cmp.Lexicographic.{pointwise};
 
+use crate::limits::MOST_THREADS;
 use arrayvec::ArrayVec;
 use std::marker::Model;
 
 /// At most eight iteration numbers, by thread from 0. Contracts see them as a list.
 #[derive(Drop)]
 pub struct Frame {
-    iterations: ArrayVec<u32, 8>,
+    iterations: ArrayVec<u32, MOST_THREADS>,
 }
 
 impl Model for Frame {
@@ -31,7 +32,7 @@ impl Frame {
 
     /// The frame that has the same iteration of each of so many threads, at most eight.
     pub fn filled(threads: usize, n: u32) -> Frame
-        requires { threads ≤ 8 }
+        requires { threads ≤ MOST_THREADS }
         ensures { result ≡ replicate threads n }
     {
         let mut frame = Frame::new();
@@ -43,7 +44,7 @@ impl Frame {
 
     /// Adds the iteration of the next thread, which is at most the eighth.
     pub fn add(&mut self, n: u32)
-        requires { length self.old < 8 }
+        requires { length self.old < MOST_THREADS }
         ensures { self.new ≡ self.old ++ n ∷ [] }
     {
         self.iterations.push(n);
@@ -70,7 +71,7 @@ impl Frame {
     #[inline(always)]
     pub fn len(&self) -> usize
         ensures value { result ≡ length self.now }
-        ensures most { result ≤ 8 }
+        ensures most { result ≤ MOST_THREADS }
     {
         self.iterations.as_slice().len()
     }

@@ -1,5 +1,5 @@
 //! What every other crate stands on: sources and sinks of bytes that count their faults, the two refusals `Failed` and
-//! `NoMemory`, names, and frames.
+//! `NoMemory`, names, frames, what a run is asked to do, and the limits.
 //!
 //! A source and a sink may tell their bytes or not. Where they do, this is proved:
 //!
@@ -19,18 +19,27 @@
 
 mod failure;
 mod frame;
+mod limits;
 mod memory_sink;
 mod memory_source;
 mod name;
+mod options;
+mod schedule;
 mod sink;
 mod source;
 mod standard;
 
 pub use failure::{Failed, NoMemory};
 pub use frame::Frame;
+pub use limits::{
+    MOST_ACTIONS, MOST_ATOMS, MOST_BYTES, MOST_CONJUNCTIONS, MOST_FRAMES, MOST_INPUT,
+    MOST_ITERATIONS, MOST_LOCATIONS, MOST_PIECES, MOST_THREADS, MOST_WRITES, WHOLE_RATE,
+};
 pub use memory_sink::MemSink;
 pub use memory_source::MemSource;
 pub use name::Name;
+pub use options::Options;
+pub use schedule::Schedule;
 pub use sink::{Sink, write_whole};
 pub use source::{ReadError, Source, read_input};
 pub use standard::{StdSink, StdSource};

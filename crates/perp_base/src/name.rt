@@ -1,4 +1,4 @@
-// The name of a test or of a location.
+//! The name of a test or of a location.
 ghost use Rattle.std.specs.Prelude.{◌≡◌, IfOk};
 
 use crate::NoMemory;

@@ -1,4 +1,4 @@
-// A sink of bytes that counts its faults, and the writing of a whole text.
+//! A sink of bytes that counts its faults, and the writing of a whole text.
 ghost use Rattle.std.specs.Prelude.{◌≡◌, ◌<◌, ◌≤◌, length, IfOk, OnOk, OnErr};
 ghost use Rattle.std.specs.Io.{WritesAtMost};
 ghost use Rattle.std.specs.Io.KnownBytes.{WriteAppends, Appends};
@@ -10,8 +10,8 @@ use crate::Failed;
 
 /// Where bytes go. A sink may tell contracts which bytes were written, and then tells them after each call too.
 pub trait Sink {
-    /// The bytes that were written, where the sink tells them, and how often a write has failed. The count stands still at the last value of
-    /// its type.
+    /// The bytes that were written, where the sink tells them, and how often a write has failed. The count stands still
+    /// at the last value of its type.
     ghost seen: { Self → View };
 
     /// Appends bytes from the front of the piece, at least one, and says how many. Where it fails it appends nothing.

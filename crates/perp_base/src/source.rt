@@ -1,4 +1,4 @@
-// A source of bytes that counts its faults, and the reading of a whole input.
+//! A source of bytes that counts its faults, and the reading of a whole input.
 ghost use Rattle.std.specs.Prelude.{◌≡◌, ◌<◌, ◌≤◌, ◌+◌, length, vec_len, IfOk, OnErr, IfSome, IsErr, IsErrOf};
 ghost use Rattle.std.specs.Io.{ReadsAtMost};
 ghost use Rattle.std.specs.Io.KnownBytes.{ReadConsumes};
@@ -12,8 +12,8 @@ use std::alloc::{AllocError, Global};
 
 /// Where bytes come from. A source may tell contracts which bytes it has left, and then tells them after each call too.
 pub trait Source {
-    /// The bytes that reads will give from here on, where the source tells them, and how often a read has failed. The count stands still at
-    /// the last value of its type.
+    /// The bytes that reads will give from here on, where the source tells them, and how often a read has failed. The
+    /// count stands still at the last value of its type.
     ghost seen: { Self → View };
 
     /// Puts the next bytes at the front of `buf`, and says how many. `Ok(0)` is the end of the input.
@@ -44,7 +44,7 @@ impl From<AllocError> for ReadError {
     }
 }
 
-// The most bytes that one call is asked for.
+/// The most bytes that one call is asked for.
 const PIECE: usize = 4096;
 
 /// Reads to the end of the input, at most `limit` bytes, or until one byte more than that is read.
@@ -57,7 +57,8 @@ pub fn read_input<S: Source>(
     ensures within { IfOk result (λ bytes. vec_len bytes ≤ limit) }
 
     // `TooLong` comes exactly where more than `limit` bytes were left, and yields only to the two other errors.
-    ensures too_long { IsErrOf result ReadError.TooLong → IsOver (S.seen source.old).bytes (S.seen source.new).bytes limit }
+    ensures too_long { IsErrOf result ReadError.TooLong
+        → IsOver (S.seen source.old).bytes (S.seen source.new).bytes limit }
     ensures long { IfSome (S.seen source.old).bytes (λ left. limit < length left → IsErr result) }
 
     ensures fault { IsErrOf result ReadError.Fault → Rose (S.seen source.old).faults (S.seen source.new).faults }

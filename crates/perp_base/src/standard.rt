@@ -1,5 +1,5 @@
-// The adapters over std's readers and writers, the edge of what is proved. They tell no bytes, since no contract can
-// say what a file or a terminal holds.
+//! The adapters over std's readers and writers, the edge of what is proved. They tell no bytes, since no contract can
+//! say what a file or a terminal holds.
 ghost use Rattle.std.specs.Prelude.{◌≡◌, ◌<◌, None, length, take, IfOk};
 ghost use Rattle.std.specs.Io.{ReadsAtMost, WritesAtMost};
 ghost use Rattle.std.specs.Io.KnownBytes.{Appends, ReadConsumes, WriteAppends};
@@ -93,7 +93,8 @@ impl<W: Write> Sink for StdSink<W> {
         ensures cause { HasCause self.old.faults self.new.faults result }
 
         // It hands on what the writer took, and counts.
-        ensures writer { IfOk result (λ n. Appends (W.contents self.old.inner) (W.contents self.new.inner) (take n bytes.now)) }
+        ensures writer { IfOk result (λ n. Appends (W.contents self.old.inner) (W.contents self.new.inner)
+            (take n bytes.now)) }
         ensures counts { CountsFaults self.old.faults self.new.faults result }
     {
         if let Ok(count) = self.writer.write(bytes) {

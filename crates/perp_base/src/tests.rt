@@ -1,3 +1,4 @@
+//! Sources, sinks, names and frames at worked sizes.
 use super::*;
 use std::io;
 use std::io::{Read, Write};
@@ -51,11 +52,11 @@ fn a_sink_in_memory_takes_pieces_and_fails_at_its_numbers(rt: HostRuntime) -> Re
     Ok(())
 }
 
-// How many bytes there are, how many of them a call moves, and how many calls move them.
+/// How many bytes there are, how many of them a call moves, and how many calls move them.
 const CALLS: [(usize, usize, u64); 5] = [(0, 4, 0), (4, 4, 1), (6, 4, 2), (6, 1, 6), (6, 9, 1)];
 
-/// An input is read by one call for each piece of it and one that finds its end, and a text is written by one call for each
-/// piece: the call after those is the first that fails.
+/// An input is read by one call for each piece of it and one that finds its end, and a text is written by one call for
+/// each piece: the call after those is the first that fails.
 #[test]
 fn each_piece_takes_one_call(rt: HostRuntime) -> Result<(), Fail> {
     let alloc = rt.alloc();
@@ -89,7 +90,7 @@ impl Read for Broken {
     }
 }
 
-// A writer that takes nothing, and one that cannot flush.
+/// A writer that takes nothing, and one that cannot flush.
 #[derive(Drop)]
 struct Stuck {
     takes: usize,

@@ -2,13 +2,13 @@ pub mod Acted
 pub mod Claimed
 pub mod Crewed
 pub mod Draining
-pub mod Finishing
 pub mod New
 pub mod Picked
 pub mod Played
 pub mod Playing
 pub mod Ports
 pub mod Replayed
+pub mod ReplayLoop
 pub mod Rows
 pub mod Sites
 pub mod Slots

@@ -17,7 +17,8 @@ in_range n (Load reg loc) few low = omega (arith, few, low)
 in_range n Fence few low = tt
 in_range n (Exchange loc written reg) few low = omega (arith, few, low)
 
-in_range_at : (n : ℕ) (actions : List Instr) (p : ℕ) (action : Instr) → n ≤ 16 → IsLocated n actions → slice_get actions p ≡ Some action → IsInRange action
+in_range_at : (n : ℕ) (actions : List Instr) (p : ℕ) (action : Instr) → n ≤ 16 → IsLocated n actions
+    → slice_get actions p ≡ Some action → IsInRange action
 in_range_at n [] p action few all at = cc
 in_range_at n (a ∷ rest) zero action few all at =
     let same : a ≡ action = cc in
@@ -26,11 +27,14 @@ in_range_at n (a ∷ rest) (suc p) action few all at =
     in_range_at n rest p action few (All-tail (λ (i : Instr). IfSome (location_of i) (λ x. x < n)) a rest all) at
 
 -- each action names one of the words
-pub action_in_range : (test : LitmusTest) (t p : ℕ) (action : Instr) → IsTest test → slice_get (body_of test t) p ≡ Some action → IsInRange action
+pub action_in_range : (test : LitmusTest) (t p : ℕ) (action : Instr) → IsTest test
+    → slice_get (body_of test t) p ≡ Some action → IsInRange action
 action_in_range test t p action is_test at =
-    in_range_at (length test.locations) (body_of test t) p action is_test.few_locations (body_located (length test.locations) test.bodies t is_test.located) at
+    in_range_at (length test.locations) (body_of test t) p action is_test.few_locations
+    (body_located (length test.locations) test.bodies t is_test.located) at
 
-short_at : (bodies : List Code) (t : ℕ) → All (λ (code : Code). length code.actions ≤ 16) bodies → length (option_map_or (λ (code : Code). code.actions) (slice_get bodies t) []) ≤ 16
+short_at : (bodies : List Code) (t : ℕ) → All (λ (code : Code). length code.actions ≤ 16) bodies
+    → length (option_map_or (λ (code : Code). code.actions) (slice_get bodies t) []) ≤ 16
 short_at [] t all = omega arith
 short_at (b ∷ bs) zero all = All-head (λ (code : Code). length code.actions ≤ 16) b bs all
 short_at (b ∷ bs) (suc t) all = short_at bs t (All-tail (λ (code : Code). length code.actions ≤ 16) b bs all)

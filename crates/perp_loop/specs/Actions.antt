@@ -1,10 +1,11 @@
--- What an action does with a store buffer, the shared words and a log. The buffer and the words follow x86-TSO (Owens, Sarkar and Sewell,
--- "A better x86 memory model: x86-TSO", 2009); which writes drain before an action is this project's own rule.
+-- What an action does with a store buffer, the shared words and a log. The buffer and the words follow x86-TSO (Owens,
+-- Sarkar and Sewell, "A better x86 memory model: x86-TSO", 2009); which writes drain before an action is this project's
+-- own rule.
 use Rattle.std.specs.Prelude.{◌≡◌, ℕ, ◌-◌, ◌<◌, ◌≤◌, Bool, All, IfSome, is_some, List, [], ◌∷◌, ◌++◌, length, map, take, drop, if◌then◌else◌}
 use Rattle.x86_subset.specs.declared.instr.Instr.{Instr}
 use Rattle.x86_subset.specs.declared.instr.Instr.TheVariants.{Store as DoStore, Load as DoLoad, Fence, Exchange}
 use Rattle.x86_subset.specs.Instr.{location_of}
-use Rattle.seq_conv.specs.Machine.{Write}
+use Rattle.tso_machine.specs.Machine.{Write}
 use Rattle.store_buffer.specs.declared.entry.Entry.{Entry}
 use Rattle.store_buffer.specs.Contents.{Contents, newest_value}
 use Rattle.load_log.specs.Values.{Values}
@@ -14,11 +15,8 @@ use Rattle.tso_words.specs.History.{word_count}
 use Rattle.tso_words.specs.Appended.{Appends}
 use Rattle.tso_runs.specs.Drained.{drains_due, kind_as}
 
--- the most actions of a body
-abbrev pub most_actions : ℕ
-most_actions = 16
-
--- no step of a walker makes more steps on the words: a full buffer drains, and an action makes one of its own, with one to spare
+-- no step of a walker makes more steps on the words: a full buffer drains, and an action makes one of its own, with one
+-- to spare
 abbrev pub most_steps : ℕ
 most_steps = 18
 
@@ -37,14 +35,15 @@ IsInRange action = IfSome (location_of action) (λ x. x < word_count)
 abbrev pub AreInRange : List Entry → Type 0
 AreInRange entries = All (λ e. e.loc < word_count) entries
 
--- the entries after an action, behind its drains, which writes w in iteration n at place p
+-- the entries after an action, after its drains, which writes w in iteration n at place p
 abbrev pub entries_after : Instr → ℕ → ℕ → ℕ → List Entry → List Entry
-entries_after (DoStore loc written) w n p entries = entries ++ record { loc = loc; value = w; iteration = n; place = p } ∷ []
+entries_after (DoStore loc written) w n p entries =
+    entries ++ record { loc = loc; value = w; iteration = n; place = p } ∷ []
 entries_after (DoLoad reg loc) w n p entries = entries
 entries_after Fence w n p entries = entries
 entries_after (Exchange loc written reg) w n p entries = entries
 
--- the steps of an action, behind its drains, which writes and reads these values
+-- the steps of an action, after its drains, which writes and reads these values
 abbrev pub own_steps : Instr → ℕ → ℕ → List Entry → List Step
 own_steps (DoStore loc written) w v entries = []
 own_steps (DoLoad reg loc) w v entries = if is_some (newest_value loc entries) then [] else (Load loc v ∷ [])
@@ -76,7 +75,7 @@ CanAct (Exchange loc written reg) capacity entries = entries ≡ []
 abbrev pub due_before : Instr → Bool → Contents → ℕ
 due_before action asks buffer = drains_due (kind_as action 0) buffer.capacity asks (length buffer.entries)
 
--- the entries behind the drains before an action
+-- the entries after the drains before an action
 abbrev pub behind : Instr → Bool → Contents → List Entry
 behind action asks buffer = drop (due_before action asks buffer) buffer.entries
 
@@ -86,5 +85,9 @@ pub record Makes {P : Type 0} (steps : P → List Step) (ready : P → ℕ → T
   pub few : due_before action asks buffer ≤ length buffer.entries
   pub newest : ReadsNewest action read (behind action asks buffer)
   pub buffered : buffer' ≡ record buffer { entries = entries_after action w n p (behind action asks buffer) }
-  pub logs : log' ≡ record log { values = log.values ++ logged action read; spare = log.spare - length (logged action read) }
-  pub appends : Appends steps ready kept port port' (map store_step (take (due_before action asks buffer) buffer.entries) ++ own_steps action w read (behind action asks buffer))
+  pub logs : log' ≡ record log {
+    values = log.values ++ logged action read;
+    spare = log.spare - length (logged action read);
+  }
+  pub appends : Appends steps ready kept port port' (map store_step
+      (take (due_before action asks buffer) buffer.entries) ++ own_steps action w read (behind action asks buffer))

@@ -1,10 +1,12 @@
--- Places in a row, one for each thread of a test: a walker, and the lane of its number while that is lent. This project's own.
+-- The members of a crew, one for each thread of a test: a walker, and the lane of its number while that is lent. This
+-- project's own.
 use Rattle.std.specs.Prelude.{◌≡◌, ℕ, ◌<◌, ◌≤◌, All, List, [], length, slice_index_or, Option, None, IsSome, IfSome}
 use Rattle.std.specs.List.{AllZip}
 use Rattle.x86_subset.specs.Shape.{IsTest}
 use Rattle.x86_subset.specs.Test.{LitmusTest, columns_of}
-use Rattle.seq_conv.specs.Event.{Event}
-use Rattle.seq_conv.specs.Log.{log_of}
+use Rattle.seq_conv.specs.Numbers.{Table, AreOf}
+use Rattle.tso_machine.specs.Event.{Event}
+use Rattle.tso_machine.specs.Log.{log_of}
 use Rattle.load_log.specs.Values.{Values, Lists, AreWhole}
 use Rattle.tso_words.specs.Seated.{TableId}
 use Rattle.tso_words.specs.Seats.{Lent}
@@ -12,13 +14,13 @@ use Rattle.tso_words.specs.declared.step.Step.{Step}
 use Rattle.tso_words.specs.declared.step.Part.{Part}
 use Rattle.tso_words.specs.History.{thread_count, list_at}
 use Rattle.tso_words.specs.Views.{beside, Stands}
-use Rattle.tso_runs.specs.declared.options.Options.{Options}
-use Rattle.tso_runs.specs.Fits.{IsWithinLimits}
+use Rattle.perp_base.specs.declared.options.Options.{Options}
+use Rattle.perp_base.specs.Options.{IsWithinLimits}
 use Rattle.tso_runs.specs.SharedSteps.{shared_steps}
 use Rattle.perp_loop.specs.Walking.{Walking, StandsFor, IsFinished}
 
--- a lane, where it is there, and its walker
-pub record Placed : Type 0 where
+-- what contracts see of a member: the lane, where it is there, and the walker
+pub record Enrolled : Type 0 where
   pub lane : Option Lent
   pub walker : Walking
 
@@ -30,17 +32,18 @@ Claims w steps = (front : List Event) × StandsFor w front × (steps ≡ shared_
 abbrev pub FitsWalker : Option Lent → Walking → Type 0
 FitsWalker lane walker = IfSome lane (λ l. (l.thread ≡ walker.thread) × Claims walker l.steps)
 
--- what holds of each place and its number
-abbrev pub Each : (ℕ → Placed → Type 0) → List Placed → Type 0
-Each P places = (i : ℕ) (d : Placed) → i < length places → P i (slice_index_or places i d)
+-- what holds of each member and its number
+abbrev pub Each : (ℕ → Enrolled → Type 0) → List Enrolled → Type 0
+Each P members = (i : ℕ) (d : Enrolled) → i < length members → P i (slice_index_or members i d)
 
 -- no lane yet, and a walker of this number that has done nothing yet
-abbrev pub IsFresh : ℕ → Placed → Type 0
+abbrev pub IsFresh : ℕ → Enrolled → Type 0
 IsFresh i p = (p.lane ≡ None) × (p.walker.thread ≡ i) × StandsFor p.walker []
 
 -- the same walker, gone on
 pub record IsSameWalker (old new : Walking) : Type 0 where
   pub test : new.test ≡ old.test
+  pub sequences : new.sequences ≡ old.sequences
   pub options : new.options ≡ old.options
   pub thread : new.thread ≡ old.thread
 
@@ -48,66 +51,76 @@ pub record IsSameWalker (old new : Walking) : Type 0 where
 abbrev pub IsFinishedAs : Walking → Walking → Type 0
 IsFinishedAs old new = IsSameWalker old new × IsFinished new
 
--- the place has a lane of this identity
-abbrev pub HasLane : TableId → Placed → Type 0
+-- the member has a lane of this identity
+abbrev pub HasLane : TableId → Enrolled → Type 0
 HasLane identity p = IsSome p.lane × IfSome p.lane (λ l. l.identity ≡ identity)
 
-abbrev pub IsLent : TableId → ℕ → Placed → Type 0
+abbrev pub IsLent : TableId → ℕ → Enrolled → Type 0
 IsLent identity i p = HasLane identity p × (p.walker.thread ≡ i)
 
-abbrev pub IsEnded : TableId → ℕ → Placed → Type 0
+abbrev pub IsEnded : TableId → ℕ → Enrolled → Type 0
 IsEnded identity i p = IsLent identity i p × IsFinished p.walker
 
-abbrev pub AreFresh : List Placed → Type 0
-AreFresh places = Each IsFresh places
+abbrev pub AreFresh : List Enrolled → Type 0
+AreFresh members = Each IsFresh members
 
-abbrev pub AreLent : TableId → List Placed → Type 0
-AreLent identity places = Each (IsLent identity) places
+abbrev pub AreLent : TableId → List Enrolled → Type 0
+AreLent identity members = Each (IsLent identity) members
 
-abbrev pub AreEnded : TableId → List Placed → Type 0
-AreEnded identity places = Each (IsEnded identity) places
+abbrev pub AreEnded : TableId → List Enrolled → Type 0
+AreEnded identity members = Each (IsEnded identity) members
 
 -- the numbers below n are away, and the others have empty lists
 abbrev pub Lends : ℕ → List Part → Type 0
 Lends n parts = ((t : ℕ) → t < n → beside t parts ≡ []) × ((t : ℕ) → n ≤ t → t < thread_count → Stands t parts [])
 
 -- the walker's number is at home, beside the steps of what the walker stands for
-abbrev pub IsBack : List Part → ℕ → Placed → Type 0
+abbrev pub IsBack : List Part → ℕ → Enrolled → Type 0
 IsBack parts t p = (steps : List Step) × Stands t parts steps × Claims p.walker steps
 
 -- all walkers are finished, and their numbers at home; the others have empty lists
-abbrev pub HasHome : List Placed → List Part → Type 0
-HasHome places parts = Each (λ t p. IsBack parts t p × (p.walker.thread ≡ t) × IsFinished p.walker) places × ((t : ℕ) → length places ≤ t → t < thread_count → Stands t parts [])
+abbrev pub HasHome : List Enrolled → List Part → Type 0
+HasHome members parts =
+    Each (λ t p. IsBack parts t p × (p.walker.thread ≡ t) × IsFinished p.walker) members
+    × ((t : ℕ) → length members ≤ t → t < thread_count → Stands t parts [])
 
 -- the list of each thread is that of its walker, which is finished, and those of the other threads are empty
-abbrev pub AreLists : List Placed → List (List Step) → Type 0
-AreLists places lists = Each (λ t p. Claims p.walker (list_at lists t) × (p.walker.thread ≡ t) × IsFinished p.walker) places × ((t : ℕ) → length places ≤ t → list_at lists t ≡ [])
+abbrev pub AreLists : List Enrolled → List (List Step) → Type 0
+AreLists members lists =
+    Each (λ t p. Claims p.walker (list_at lists t) × (p.walker.thread ≡ t) × IsFinished p.walker) members
+    × ((t : ℕ) → length members ≤ t → list_at lists t ≡ [])
 
--- place by place the same walkers
-abbrev pub SameWalkers : List Placed → List Placed → Type 0
-SameWalkers olds news = (i : ℕ) (d : Placed) → i < length olds → (slice_index_or news i d).walker ≡ (slice_index_or olds i d).walker
+-- member by member the same walkers
+abbrev pub SameWalkers : List Enrolled → List Enrolled → Type 0
+SameWalkers olds news =
+    (i : ℕ) (d : Enrolled) → i < length olds → (slice_index_or news i d).walker ≡ (slice_index_or olds i d).walker
 
--- place by place the same walkers, which have gone on to their ends
-abbrev pub AreFinishedAs : List Placed → List Placed → Type 0
-AreFinishedAs olds news = (i : ℕ) (d : Placed) → i < length olds → IsFinishedAs (slice_index_or olds i d).walker (slice_index_or news i d).walker
+-- member by member the same walkers, which have gone on to their ends
+abbrev pub AreFinishedAs : List Enrolled → List Enrolled → Type 0
+AreFinishedAs olds news =
+    (i : ℕ) (d : Enrolled) → i < length olds → IsFinishedAs (slice_index_or olds i d).walker
+    (slice_index_or news i d).walker
 
--- what a crew is to do
+-- what a crew is to do: to perform the test, whose values are by these sequences, as the options say
 pub record Job : Type 0 where
   pub test : LitmusTest
+  pub sequences : Table
   pub options : Options
 
-abbrev pub IsOfJob : Job → Placed → Type 0
-IsOfJob job p = (p.walker.test ≡ job.test) × (p.walker.options ≡ job.options)
+abbrev pub IsOfJob : Job → Enrolled → Type 0
+IsOfJob job p =
+    (p.walker.test ≡ job.test) × (p.walker.options ≡ job.options) × (p.walker.sequences ≡ job.sequences)
 
--- one fresh place for each thread of the test, and room for the logs
-pub record IsCrew (job : Job) (places : List Placed) (logs : Lists) : Type 0 where
+-- the sequences are the test's; there is one fresh member for each thread of it, and room for the logs
+pub record IsCrew (job : Job) (members : List Enrolled) (logs : Lists) : Type 0 where
   pub is_test : IsTest job.test
+  pub sequences : AreOf job.test job.sequences
   pub options : IsWithinLimits job.options
-  pub count : length places ≡ length job.test.bodies
-  pub fresh : AreFresh places
-  pub of_job : Each (λ t p. IsOfJob job p) places
+  pub count : length members ≡ length job.test.bodies
+  pub fresh : AreFresh members
+  pub of_job : Each (λ t p. IsOfJob job p) members
   pub none : logs.logs ≡ []
-  pub room : length places ≤ logs.spare
+  pub room : length members ≤ logs.spare
 
 -- there is one log for each thread of the test, of its columns and of n iterations
 pub record AreWholeFor (test : LitmusTest) (n : ℕ) (logs : List Values) : Type 0 where
@@ -124,9 +137,9 @@ pub record HaveValuesOf (test : LitmusTest) (run : List Event) (logs : List Valu
 abbrev pub IsLogOf : Walking → Values → Type 0
 IsLogOf w log = (log.values ≡ w.log) × (log.columns ≡ columns_of w.test w.thread)
 
--- each log is that of the walker in its place
-abbrev pub AreLogs : List Placed → List Values → Type 0
-AreLogs places logs = AllZip (λ p log. IsLogOf p.walker log) places logs
+-- each log is that of its member's walker
+abbrev pub AreLogs : List Enrolled → List Values → Type 0
+AreLogs members logs = AllZip (λ p log. IsLogOf p.walker log) members logs
 
-abbrev pub AllFinished : List Placed → Type 0
-AllFinished places = All (λ p. IsFinished p.walker) places
+abbrev pub AllFinished : List Enrolled → Type 0
+AllFinished members = All (λ p. IsFinished p.walker) members

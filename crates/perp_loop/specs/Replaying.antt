@@ -6,10 +6,10 @@ use Rattle.store_buffer.specs.Generator.{generator_after}
 use Rattle.x86_subset.specs.Test.{body_of}
 use Rattle.tso_words.specs.History.{history_part}
 use Rattle.tso_words.specs.Traces.{Trace, Tracing, HasRoom, Continues}
-use Rattle.tso_runs.specs.declared.schedule.Schedule.{Schedule}
-use Rattle.tso_runs.specs.declared.schedule.Schedule.TheVariants.{Turns, Seeded}
+use Rattle.perp_base.specs.declared.schedule.Schedule.{Schedule}
+use Rattle.perp_base.specs.declared.schedule.Schedule.TheVariants.{Turns, Seeded}
 use Rattle.perp_loop.specs.declared.went.Went.{Went}
-use Rattle.perp_loop.specs.declared.went.Went.TheVariants.{Action, Finished}
+use Rattle.perp_loop.specs.declared.went.Went.TheVariants.{Turn, Finished}
 use Rattle.std.specs.List.{range_with_len}
 use Rattle.perp_loop.specs.Crews.{Job}
 use Rattle.perp_loop.specs.Walking.{Walking, Stepped}
@@ -26,16 +26,18 @@ owed_by job = sum_below (length job.test.bodies) (λ t. job.options.iterations *
 -- a walker took a step on the stored history
 abbrev pub SteppedOn : Went → Walking → Trace → Walking → Trace → Type 0
 SteppedOn went old before new after =
-    Stepped {P = Tracing} (λ p. history_part p.thread p.trace.history) HasRoom Continues went old (record { thread = old.thread; trace = before }) new (record { thread = old.thread; trace = after })
+    Stepped {P = Tracing} (λ p. history_part p.thread p.trace.history) HasRoom Continues went old
+    (record { thread = old.thread; trace = before }) new (record { thread = old.thread; trace = after })
 
 -- the generator answers what the schedule's generator answers from turn i on
 abbrev pub IsAtTurn : Schedule → ℕ → List ℕ → Type 0
 IsAtTurn Turns i generator = Unit {0}
-IsAtTurn (Seeded q) i generator = stream_of (steps_u64_high plus_plus) generator ≡ stream_of (steps_u64_high plus_plus) (generator_after q i)
+IsAtTurn (Seeded q) i generator =
+    stream_of (steps_u64_high plus_plus) generator ≡ stream_of (steps_u64_high plus_plus) (generator_after q i)
 
 -- whether a step took a turn
 abbrev pub goes_on_after : Went → Bool
-goes_on_after Action = true
+goes_on_after Turn = true
 goes_on_after Finished = false
 
 -- the threads below n that these say are playing, in rising order

@@ -1,19 +1,18 @@
--- What contracts see of a walker, and what it does to a lawful part: this project's own, over the events of x86-TSO (Sewell, Sarkar, Owens,
--- Zappa Nardelli and Myreen, CACM 2010).
+-- What contracts see of a walker, and what it does to a lawful part: this project's own, over the events of x86-TSO
+-- (Sewell, Sarkar, Owens, Zappa Nardelli and Myreen, CACM 2010).
 use Rattle.std.specs.Prelude.{◌≡◌, ℕ, ◌+◌, ◌<◌, ◌≤◌, not, All, List, [], ◌++◌, length, drop, filter, count_by}
 use Rattle.std.specs.List.{AllZip, filter_map}
-use Rattle.x86_subset.specs.Test.{LitmusTest}
-use Rattle.x86_subset.specs.Test.{body_of}
+use Rattle.x86_subset.specs.Test.{LitmusTest, body_of}
 use Rattle.seq_conv.specs.Numbers.{Table}
-use Rattle.seq_conv.specs.Event.{Event, is_drain}
-use Rattle.seq_conv.specs.Log.{value_read}
-use Rattle.seq_conv.specs.Machine.{Write}
-use Rattle.seq_conv.specs.Part.{Slot, slots_of_loop, Fills, KeepsBuffer}
+use Rattle.tso_machine.specs.Event.{Event, is_drain}
+use Rattle.tso_machine.specs.Log.{value_read}
+use Rattle.tso_machine.specs.Machine.{Write}
+use Rattle.tso_machine.specs.Part.{Slot, slots_of_loop, Fills, KeepsBuffer}
 use Rattle.tso_words.specs.declared.step.Step.{Step}
 use Rattle.tso_words.specs.Appended.{Appends}
-use Rattle.tso_runs.specs.declared.options.Options.{Options}
+use Rattle.perp_base.specs.declared.options.Options.{Options}
 use Rattle.perp_loop.specs.declared.went.Went.{Went}
-use Rattle.perp_loop.specs.declared.went.Went.TheVariants.{Action, Finished}
+use Rattle.perp_loop.specs.declared.went.Went.TheVariants.{Turn, Finished}
 use Rattle.tso_runs.specs.Fits.{IsLawful}
 use Rattle.tso_runs.specs.Drained.{DrainsWhereDue}
 pub use Rattle.tso_runs.specs.Own.{buffer_after}
@@ -34,7 +33,7 @@ pub record Walking : Type 0 where
 abbrev pub slots_left : Walking → List Slot
 slots_left w = drop w.made (slots_of_loop (body_of w.test w.thread) w.options.iterations)
 
--- the events are what a lawful part has behind what the walker has done
+-- the events are what a lawful part has after what the walker has done
 pub record Finishes (w : Walking) (rest : List Event) : Type 0 where
   pub own : All (λ e. e.thread ≡ w.thread) rest
   pub performs : AllZip (Fills w.thread) (slots_left w) (filter (λ e. not (is_drain e)) rest)
@@ -83,8 +82,9 @@ pub record TakesTurn {P : Type 0} (steps : P → List Step) (ready : P → ℕ �
   pub ends : length (slots_left new) + owed new < length (slots_left old) + owed old
 
 -- a step takes the next turn, or finds that none is left
-abbrev pub Stepped : {P : Type 0} → (P → List Step) → (P → ℕ → Type 0) → (P → P → Type 0) → Went → Walking → P → Walking → P → Type 0
-Stepped steps ready kept Action old before new after = TakesTurn steps ready kept old before new after
+abbrev pub Stepped : {P : Type 0} → (P → List Step) → (P → ℕ → Type 0) → (P → P → Type 0) → Went → Walking → P → Walking
+    → P → Type 0
+Stepped steps ready kept Turn old before new after = TakesTurn steps ready kept old before new after
 Stepped steps ready kept Finished old before new after = IsFinished old × (new ≡ old) × (after ≡ before)
 
 -- nothing is done yet

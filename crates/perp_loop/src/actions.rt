@@ -3,10 +3,10 @@ ghost use Rattle.std.specs.Prelude.{◌≡◌, ℕ, ◌+◌, ◌-◌, ◌<◌, �
 ghost use Rattle.seq_conv.specs.Numbers.{row_of, value_at};
 ghost use Rattle.tso_words.specs.Appended.{Appends};
 ghost use Rattle.x86_subset.specs.Instr.{is_reading};
-ghost use Rattle.perp_loop.specs.Actions.{most_actions, most_steps, AreInRange, IsInRange, store_step, entries_after, own_steps, logged, ReadsNewest, CanAct, due_before, Makes};
-ghost use Rattle.tso_runs.specs.Fits.{most_iterations};
+ghost use Rattle.perp_loop.specs.Actions.{most_steps, AreInRange, IsInRange, store_step, entries_after, own_steps, logged, ReadsNewest, CanAct, due_before, Makes};
 ghost use Rattle.tso_runs.specs.Drained.{drains_due, kind_as};
-ghost use Rattle.perp_loop.specs.Sound.{IsPlace};
+ghost use Rattle.perp_loop.specs.Sound.{IsPosition};
+ghost use Rattle.perp_base.specs.declared.limits.TheConstants.{MOST_ACTIONS, MOST_ITERATIONS};
 
 use load_log::Log;
 use seq_conv::Sequences;
@@ -53,7 +53,7 @@ pub(crate) struct At {
     pub(crate) iteration: u32,
 }
 
-/// Makes an action, behind its drains, and answers the value that it reads.
+/// Makes an action, after its drains, and answers the value that it reads.
 pub(crate) fn act<P: Port>(
     action: Instr,
     at: At,
@@ -63,8 +63,8 @@ pub(crate) fn act<P: Port>(
 ) -> Option<u64>
     requires thread { at.thread < length sequences.now.rows }
     requires place { at.place < length (row_of sequences.now at.thread) }
-    requires low_place { at.place < most_actions }
-    requires iteration { at.iteration < most_iterations }
+    requires low_place { at.place < MOST_ACTIONS }
+    requires iteration { at.iteration < MOST_ITERATIONS }
     requires in_range { IsInRange action }
     requires can { CanAct action buffer.old.capacity buffer.old.entries }
     requires ready { P.ready port.old 1 }
@@ -111,8 +111,8 @@ pub(crate) fn take_turn<P: Port>(
 )
     requires thread { at.thread < length sequences.now.rows }
     requires place { at.place < length (row_of sequences.now at.thread) }
-    requires low_place { at.place < most_actions }
-    requires iteration { at.iteration < most_iterations }
+    requires low_place { at.place < MOST_ACTIONS }
+    requires iteration { at.iteration < MOST_ITERATIONS }
     requires in_range { IsInRange action }
     requires entries_in_range { AreInRange buffer.old.entries }
     requires room { IsTrue (is_reading action) → 1 ≤ log.old.spare }
@@ -130,18 +130,18 @@ pub(crate) fn take_turn<P: Port>(
 /// The iteration of the first action, in a loop of a body of this length. A loop without actions is at its end.
 pub(crate) fn first_iteration(len: usize, iterations: u32) -> u32
     ensures first { result * len ≡ 0 }
-    ensures stands { IsPlace iterations len result 0 }
+    ensures stands { IsPosition iterations len result 0 }
 {
     if len == 0 { iterations } else { 0 }
 }
 
 /// Where the next action stands, by its iteration and place, in a body of this length.
-pub(crate) fn next_place(iteration: u32, place: usize, len: usize) -> (u32, usize)
+pub(crate) fn next_position(iteration: u32, place: usize, len: usize) -> (u32, usize)
     requires place { place < len }
-    requires short { len ≤ most_actions }
-    requires iteration { iteration < most_iterations }
+    requires short { len ≤ MOST_ACTIONS }
+    requires iteration { iteration < MOST_ITERATIONS }
     ensures further { result.0 * len + result.1 ≡ iteration * len + place + 1 }
-    ensures stands { (n : ℕ) → iteration < n → IsPlace n len result.0 result.1 }
+    ensures stands { (n : ℕ) → iteration < n → IsPosition n len result.0 result.1 }
 {
     if place + 1 < len {
         (iteration, place + 1)

@@ -3,25 +3,25 @@ ghost use Rattle.std.specs.Prelude.{◌≡◌, ℕ, ◌<◌, ◌≤◌, [], leng
 ghost use Rattle.seq_conv.specs.Numbers.{AreOf};
 ghost use Rattle.perp_loop.specs.Crews.{AllFinished, AreLogs, IsCrew};
 ghost use Rattle.perp_loop.specs.Replaying.{owed_by};
-ghost use Rattle.tso_runs.specs.Fits.{IsWithinLimits};
+ghost use Rattle.perp_base.specs.Options.{IsWithinLimits};
 
-use crate::place::Place;
+use crate::member::Member;
 use crate::walker::Walker;
 use load_log::Logs;
-use perp_base::NoMemory;
+use perp_base::{NoMemory, Options};
 use seq_conv::Sequences;
 use std::alloc::Global;
 use std::marker::Model;
-use tso_runs::Options;
 use x86_subset::Test;
 
-/// One walker for each thread of a test, none of which has done anything yet, and room for their logs. Contracts see the test and
-/// the options; the sequences are those of the test.
+/// One walker for each thread of a test, none of which has done anything yet, and room for their logs. Contracts see
+/// the test, its sequences and the options.
 #[derive(Drop)]
 pub struct Crew<'a> {
     test: &'a Test,
+    sequences: &'a Sequences,
     options: Options,
-    places: Vec<Place<'a>>,
+    members: Vec<Member<'a>>,
     logs: Logs,
 }
 
@@ -30,9 +30,11 @@ impl<'a> Model for Crew<'a> {
 
     ghost Value = { Job };
 
-    ghost view = { λ a. record { test = a.test.now; options = a.options } };
+    ghost view = { λ a. record { test = a.test.now; sequences = a.sequences.now; options = a.options } };
 
-    ghost invariant = { λ a. IsCrew (record { test = a.test.now; options = a.options }) a.places.items a.logs };
+    ghost invariant = { λ a.
+        let job : Job = record { test = a.test.now; sequences = a.sequences.now; options = a.options } in
+        IsCrew job a.members.items a.logs };
 }
 
 impl<'a> Crew<'a> {
@@ -45,18 +47,20 @@ impl<'a> Crew<'a> {
     ) -> Result<Crew<'a>, NoMemory>
         requires sequences { AreOf test.now sequences.now }
         requires limits { IsWithinLimits options.now }
-        ensures { IfOk result (λ crew. crew ≡ record { test = test.now; options = options.now }) }
+        ensures { IfOk result (λ crew.
+            crew ≡ record { test = test.now; sequences = sequences.now; options = options.now }) }
     {
-        let mut places = Vec::new(alloc);
+        let mut members = Vec::new(alloc);
         for t in 0..test.threads() {
             let walker = Walker::new(alloc, test, sequences, t, options)?;
-            places.push(Place::new(walker))?;
+            members.push(Member::new(walker))?;
         }
-        let logs = Logs::reserve(alloc, places.len())?;
+        let logs = Logs::reserve(alloc, members.len())?;
         Ok(Crew {
             test,
+            sequences,
             options: *options,
-            places,
+            members,
             logs,
         })
     }
@@ -72,23 +76,23 @@ impl<'a> Crew<'a> {
         steps
     }
 
-    /// The places in order, and room for their logs.
-    pub(crate) fn parts(self) -> (Vec<Place<'a>>, Logs)
+    /// The members in order, and room for their logs.
+    pub(crate) fn parts(self) -> (Vec<Member<'a>>, Logs)
         ensures { IsCrew self.entry result.0.items result.1 }
     {
-        (self.places, self.logs)
+        (self.members, self.logs)
     }
 }
 
 /// The logs of finished walkers in order.
-pub(crate) fn logs_of(places: Vec<Place<'_>>, mut logs: Logs) -> Logs
-    requires finished { AllFinished places.items }
+pub(crate) fn logs_of(members: Vec<Member<'_>>, mut logs: Logs) -> Logs
+    requires finished { AllFinished members.items }
     requires none { logs.logs ≡ [] }
-    requires room { length places.items ≤ logs.spare }
-    ensures { AreLogs places.entry.items result.logs }
+    requires room { length members.items ≤ logs.spare }
+    ensures { AreLogs members.entry.items result.logs }
 {
-    for place in places {
-        logs.add(place.log());
+    for member in members {
+        logs.add(member.log());
     }
     logs
 }

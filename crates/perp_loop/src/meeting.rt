@@ -7,7 +7,7 @@ use std::thread::yield_now;
 /// How often a thread looks for the others: for one or two milliseconds, where nothing else keeps it from running.
 const MOST_LOOKS: u32 = 5_000;
 
-/// How many of the looks have no more than a pause behind them. The others let another thread run.
+/// How many of the looks have no more than a pause after them. The others let another thread run.
 const QUICK_LOOKS: u32 = 1_000;
 
 /// How many threads have come, and how many of them have seen that all have.

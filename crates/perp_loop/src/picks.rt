@@ -7,12 +7,9 @@ ghost use Rattle.perp_loop.specs.Replaying.{IsAtTurn, players_in};
 ghost use Rattle.tso_runs.specs.Schedule.{named};
 
 use arrayvec::ArrayVec;
+use perp_base::{MOST_THREADS, Schedule};
 use rand_core::{Rng, SeedableRng};
 use rand_xoshiro::Xoshiro256PlusPlus;
-use tso_runs::Schedule;
-
-/// How many threads there can be.
-pub(crate) const MOST_THREADS: usize = 8;
 
 /// The schedule's generator, before its first word.
 pub(crate) fn first_words(schedule: Schedule) -> Xoshiro256PlusPlus
@@ -52,15 +49,17 @@ fn in_order(from: u32, left: &[u32]) -> Option<u32>
 
 /// The thread that the next word picks.
 fn by_word(generator: &mut Xoshiro256PlusPlus, seed: u64, left: &[u32]) -> Option<u32>
-    ensures named { (i : ℕ) → IsAtTurn (Schedule.Seeded seed) i generator.old → result ≡ slice_get left.now (generator_word seed i % length left.now) }
-    ensures at { (i : ℕ) → IsAtTurn (Schedule.Seeded seed) i generator.old → IsSome result → IsAtTurn (Schedule.Seeded seed) (i + 1) generator.new }
+    ensures named { (i : ℕ) → IsAtTurn (Schedule.Seeded seed) i generator.old
+        → result ≡ slice_get left.now (generator_word seed i % length left.now) }
+    ensures at { (i : ℕ) → IsAtTurn (Schedule.Seeded seed) i generator.old → IsSome result
+        → IsAtTurn (Schedule.Seeded seed) (i + 1) generator.new }
 {
     if left.is_empty() {
         None
     } else {
         let word = generator.next_u64();
-        let place = (word % left.len() as u64) as usize;
-        Some(left[place])
+        let index = (word % left.len() as u64) as usize;
+        Some(left[index])
     }
 }
 
@@ -73,7 +72,8 @@ pub(crate) fn pick(
     threads: usize,
 ) -> Option<u32>
     requires few { threads ≤ thread_count }
-    ensures named { (i : ℕ) → IsAtTurn schedule i generator.old → result ≡ named schedule i from (players_in playing.now threads) }
+    ensures named { (i : ℕ) → IsAtTurn schedule i generator.old
+        → result ≡ named schedule i from (players_in playing.now threads) }
     ensures at { (i : ℕ) → IsAtTurn schedule i generator.old → IsSome result → IsAtTurn schedule (i + 1) generator.new }
 {
     let left = list_playing(playing, threads);

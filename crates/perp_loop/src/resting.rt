@@ -3,9 +3,9 @@
 use crate::gate::Gate;
 use std::thread::yield_now;
 
-/// Tells the gate behind it of each iteration, and before some early ones lets another thread run. So where a processor has
-/// more threads than one, they come to their first iterations in turn, while the buffers of the others hold writes. It waits
-/// for nobody: where no other thread is ready, it goes on at once.
+/// Tells the gate after it of each iteration, and before some early ones lets another thread run. So where a processor
+/// has more threads than one, they come to their first iterations in turn, while the buffers of the others hold writes.
+/// It waits for nobody: where no other thread is ready, it goes on at once.
 #[derive(Drop)]
 pub(crate) struct Resting<'a, G: Gate> {
     gate: &'a G,

@@ -1,7 +1,7 @@
-// Walkers, replays and threads over worked tests of the locations x and y.
+//! Walkers, replays and threads over worked tests of the locations x and y.
 ghost use Rattle.std.specs.Prelude.{◌≤◌, length};
 ghost use Rattle.x86_subset.specs.Shape.{AreLocated};
-ghost use Rattle.tso_runs.specs.Fits.{IsWithinLimits};
+ghost use Rattle.perp_base.specs.Options.{IsWithinLimits};
 
 use super::*;
 use load_log::Logs;
@@ -38,7 +38,7 @@ const LOAD_Y: Instr = Instr::Load {
     loc: Y,
 };
 
-// How often bodies are performed, at which rate of drains and with which buffers.
+/// How often bodies are performed, at which rate of drains and with which buffers.
 const ONCE: Options = Options {
     iterations: 1,
     seed: 0,
@@ -81,7 +81,7 @@ const THRICE: Options = Options {
     buffer: 8,
 };
 
-// A test of these bodies over x and y.
+/// A test of these bodies over x and y.
 fn test_of(alloc: Global, bodies: Vec<Body>) -> Result<Test, Fail>
     requires some { 1 ≤ length bodies.items }
     requires located { AreLocated 2 bodies.items }
@@ -101,7 +101,7 @@ fn test_of(alloc: Global, bodies: Vec<Body>) -> Result<Test, Fail>
     Ok(test)
 }
 
-// Two stores, and a read of the first.
+/// Two stores, and a read of the first.
 fn two_stores(alloc: Global) -> Result<Test, Fail> {
     let mut body = Body::new(alloc);
     body.add(STORE_X)?;
@@ -110,7 +110,7 @@ fn two_stores(alloc: Global) -> Result<Test, Fail> {
     test_of(alloc, vec![in alloc; body]?)
 }
 
-// A store and a read of another location.
+/// A store and a read of another location.
 fn store_and_load(alloc: Global) -> Result<Test, Fail> {
     let mut body = Body::new(alloc);
     body.add(STORE_X)?;
@@ -118,7 +118,7 @@ fn store_and_load(alloc: Global) -> Result<Test, Fail> {
     test_of(alloc, vec![in alloc; body]?)
 }
 
-// The same with a fence between them.
+/// The same with a fence between them.
 fn store_fence_load(alloc: Global) -> Result<Test, Fail> {
     let mut body = Body::new(alloc);
     body.add(STORE_X)?;
@@ -127,7 +127,7 @@ fn store_fence_load(alloc: Global) -> Result<Test, Fail> {
     test_of(alloc, vec![in alloc; body]?)
 }
 
-// The same with an exchange as the store.
+/// The same with an exchange as the store.
 fn swap_and_load(alloc: Global) -> Result<Test, Fail> {
     let mut body = Body::new(alloc);
     body.add(SWAP_X)?;
@@ -135,7 +135,7 @@ fn swap_and_load(alloc: Global) -> Result<Test, Fail> {
     test_of(alloc, vec![in alloc; body]?)
 }
 
-// Store buffering: each thread stores to one location and reads the other.
+/// Store buffering: each thread stores to one location and reads the other.
 fn store_buffering(alloc: Global) -> Result<Test, Fail> {
     let mut first = Body::new(alloc);
     first.add(STORE_X)?;
@@ -146,7 +146,7 @@ fn store_buffering(alloc: Global) -> Result<Test, Fail> {
     test_of(alloc, vec![in alloc; first, second]?)
 }
 
-// A first thread that stores and fences, and a second one that reads.
+/// A first thread that stores and fences, and a second one that reads.
 fn write_and_read(alloc: Global) -> Result<Test, Fail> {
     let mut writer = Body::new(alloc);
     writer.add(STORE_X)?;
@@ -171,7 +171,7 @@ fn swap(thread: u32, loc: u32, new: u64, old: u64) -> TracedStep {
     TracedStep { thread, step }
 }
 
-// The history of a replay by turns, and its logs.
+/// The history of a replay by turns, and its logs.
 fn replayed(alloc: Global, test: &Test, options: &Options) -> Result<(Traced, Logs), Fail>
     requires { IsWithinLimits options.now }
 {
@@ -181,12 +181,12 @@ fn replayed(alloc: Global, test: &Test, options: &Options) -> Result<(Traced, Lo
     Ok(replay(traced, crew, Schedule::Turns))
 }
 
-// The history has these steps.
+/// The history has these steps.
 fn made(traced: &Traced, steps: &[TracedStep]) -> bool {
     traced.steps() == steps
 }
 
-// Thread `t` has one column, and logged these values in it.
+/// Thread `t` has one column, and logged these values in it.
 fn logged(logs: &Logs, t: usize, values: &[u64]) -> bool {
     if t >= logs.len() {
         return false;
@@ -240,10 +240,10 @@ fn replays_store_buffering_by_turns(rt: HostRuntime) -> Result<(), Fail> {
     Ok(())
 }
 
-// How often a call looks for another one.
+/// How often a call looks for another one.
 const MOST_LOOKS: u32 = 100000000;
 
-// The iterations of two threads that meet: each call sets its flag, and some wait for the flag of another one.
+/// The iterations of two threads that meet: each call sets its flag, and some wait for the flag of another one.
 #[derive(Drop)]
 struct Meeting {
     called: [AtomicBool; 6],
@@ -251,7 +251,7 @@ struct Meeting {
     missed: AtomicU64,
 }
 
-// The place of a call's flag.
+/// The number of a call's flag.
 fn call(thread: u32, iteration: u32) -> usize {
     thread as usize * 3 + iteration as usize
 }
@@ -279,7 +279,7 @@ impl Meeting {
         }
     }
 
-    // All calls came, and none was missed.
+    /// All calls came, and none was missed.
     fn is_passed(&self) -> bool {
         for call in 0..6 {
             if !self.is_called(call) {
@@ -289,7 +289,7 @@ impl Meeting {
         self.missed.load(Ordering::SeqCst) == 0
     }
 
-    // Looks for a call until it has come; a look that never finds it is counted.
+    /// Looks for a call until it has come; a look that never finds it is counted.
     fn look_for(&self, call: usize) {
         for _ in 0..MOST_LOOKS {
             if self.is_called(call) {
@@ -312,7 +312,7 @@ impl Gate for Meeting {
     }
 }
 
-// The logs of three iterations of two threads that meet.
+/// The logs of three iterations of two threads that meet.
 fn met<R: Threads + Sync>(rt: &R, alloc: Global, gate: &Meeting) -> Result<Logs, Fail> {
     let test = write_and_read(alloc)?;
     let sequences = Sequences::of(alloc, &test)?;
@@ -323,13 +323,15 @@ fn met<R: Threads + Sync>(rt: &R, alloc: Global, gate: &Meeting) -> Result<Logs,
 
 #[test]
 fn threads_run_beside_one_another(rt: HostRuntime) -> Result<(), Fail> {
-    // The first thread awaits the next iteration of the second one, and the second one the same iteration of the first one.
+    // The first thread awaits the next iteration of the second one, and the second one the same iteration of the first
+    // one.
     let gate = Meeting::new([Some(4), Some(5), None, None, Some(1), Some(2)]);
     let logs = met(&rt, rt.alloc(), &gate)?;
     assert!(rt; logged(&logs, 1, &[0, 1, 2]) || logged(&logs, 1, &[0, 1, 3]));
     assert!(rt; gate.is_passed());
 
-    // The second thread begins when the first one has done two iterations, and the first one awaits the last iteration of the second.
+    // The second thread begins when the first one has done two iterations, and the first one awaits the last iteration
+    // of the second.
     let gate = Meeting::new([None, None, Some(5), Some(2), None, None]);
     let logs = met(&rt, rt.alloc(), &gate)?;
     assert!(rt; logged(&logs, 1, &[2, 2, 2]) || logged(&logs, 1, &[2, 2, 3]));

@@ -1,30 +1,31 @@
 //! One thread's loop.
 ghost use Rattle.std.specs.Prelude.{◌≡◌, ℕ, ◌+◌, ◌<◌, ◌≤◌, ◌⊎◌, List, [], ◌∷◌, ◌++◌, length, IfOk};
 ghost use Rattle.seq_conv.specs.Numbers.{AreOf};
-ghost use Rattle.tso_runs.specs.Fits.{IsWithinLimits, IsLawful};
+ghost use Rattle.perp_base.specs.Options.{IsWithinLimits};
+ghost use Rattle.tso_runs.specs.Fits.{IsLawful};
 ghost use Rattle.std.specs.List.{filter_map};
 ghost use Rattle.x86_subset.specs.Test.{columns_of};
-ghost use Rattle.seq_conv.specs.Event.{Event};
-ghost use Rattle.seq_conv.specs.Log.{value_read};
+ghost use Rattle.tso_machine.specs.Event.{Event};
+ghost use Rattle.tso_machine.specs.Log.{value_read};
 ghost use Rattle.tso_runs.specs.SharedSteps.{shared_steps};
 ghost use Rattle.perp_loop.specs.Actions.{most_steps};
 ghost use Rattle.perp_loop.specs.Walking.{owed, Stepped, StandsFor, IsNew, IsFinished, Walks};
 
-use crate::actions::{At, drain, first_iteration, next_place, take_turn};
+use crate::actions::{At, drain, first_iteration, next_position, take_turn};
 use crate::gate::Gate;
 use crate::went::Went;
 use load_log::Log;
-use perp_base::NoMemory;
+use perp_base::{NoMemory, Options};
 use seq_conv::Sequences;
 use std::alloc::Global;
 use std::marker::Model;
 use store_buffer::{Buffer, Drains};
-use tso_runs::Options;
 use tso_words::Port;
 use x86_subset::Test;
 
-/// A thread that performs its body again and again through its own store buffer. Contracts see the test, its sequences, the options,
-/// the thread's number, how many actions are made, the writes in the buffer, oldest first, and the values that were logged.
+/// A thread that performs its body again and again through its own store buffer. Contracts see the test, its sequences,
+/// the options, the thread's number, how many actions are made, the writes in the buffer, oldest first, and the values
+/// that were logged.
 #[derive(Drop)]
 pub struct Walker<'a> {
     test: &'a Test,
@@ -58,7 +59,8 @@ impl<'a> Model for Walker<'a> {
       log = a.log.values;
     } };
 
-    ghost invariant = { λ a. IsSound a.test.now a.sequences.now a.options a.thread a.iteration a.place a.drains a.buffer a.log };
+    ghost invariant = { λ a. IsSound a.test.now a.sequences.now a.options a.thread a.iteration a.place a.drains a.buffer
+        a.log };
 }
 
 impl<'a> Walker<'a> {
@@ -74,7 +76,15 @@ impl<'a> Walker<'a> {
         requires thread { t < length test.now.bodies }
         requires limits { IsWithinLimits options.now }
         ensures stands { IfOk result (λ w. StandsFor w []) }
-        ensures made { IfOk result (λ w. w ≡ record { test = test.now; sequences = sequences.now; options = options.now; thread = t; made = 0; buffer = []; log = [] }) }
+        ensures made { IfOk result (λ w. w ≡ record {
+          test = test.now;
+          sequences = sequences.now;
+          options = options.now;
+          thread = t;
+          made = 0;
+          buffer = [];
+          log = [];
+        }) }
     {
         let threads = test.threads();
         prove!(t < threads);
@@ -93,8 +103,8 @@ impl<'a> Walker<'a> {
         })
     }
 
-    /// Makes the next action with the drains before it, or drains one write behind the last action; `Finished` where nothing is left to
-    /// do, and then nothing changes. Takes no memory.
+    /// Makes the next action with the drains before it, or drains one write after the last action; `Finished` where
+    /// nothing is left to do, and then nothing changes. Takes no memory.
     pub fn step<P: Port>(&mut self, port: &mut P) -> Went
         requires { P.ready port.old (owed self.old) ⊎ P.ready port.old most_steps }
         ensures { Stepped P.steps P.ready P.kept result self.old port.old self.new port.new }
@@ -117,15 +127,15 @@ impl<'a> Walker<'a> {
                 &mut self.log,
                 port,
             );
-            let next = next_place(self.iteration, self.place, body.len());
+            let next = next_position(self.iteration, self.place, body.len());
             self.iteration = next.0;
             self.place = next.1;
-            Went::Action
+            Went::Turn
         } else if self.buffer.is_empty() {
             Went::Finished
         } else {
             drain(&mut self.buffer, 1, port);
-            Went::Action
+            Went::Turn
         }
     }
 
@@ -149,7 +159,7 @@ impl<'a> Walker<'a> {
             × (self.new.log ≡ filter_map value_read part) }
     {
         self.call(gate);
-        while let Went::Action = self.step(port) {
+        while let Went::Turn = self.step(port) {
             self.call(gate);
         }
     }

@@ -6,7 +6,7 @@ ghost use Rattle.perp_loop.specs.Replaying.{goes_on_after};
 #[derive(Clone, Copy, PartialEq, Eq)]
 pub enum Went {
     /// It took a turn.
-    Action,
+    Turn,
     /// Nothing was left to do.
     Finished,
 }
@@ -17,7 +17,7 @@ impl Went {
         ensures { result ≡ goes_on_after self }
     {
         match self {
-            Went::Action => true,
+            Went::Turn => true,
             Went::Finished => false,
         }
     }

@@ -15,7 +15,8 @@ use Rattle.perple_core.specs.Texts.{kinds_of}
 
 -- where each atom has a kind, the kinds are these
 kinds_among : (test : LitmusTest) (atoms : List Atom) (kinds : List AtomKind)
-    → AllZip (λ atom kind. kind_of test atom ≡ Ok kind) atoms kinds → filter_map (λ atom. result_ok (kind_of test atom)) atoms ≡ kinds
+    → AllZip (λ atom kind. kind_of test atom ≡ Ok kind) atoms kinds
+    → filter_map (λ atom. result_ok (kind_of test atom)) atoms ≡ kinds
 kinds_among test [] [] h = refl
 kinds_among test [] (kind ∷ kinds) h = absurd h
 kinds_among test (atom ∷ atoms) [] h = absurd h
@@ -26,23 +27,30 @@ pub kinds_are : (test : LitmusTest) (kinds : List AtomKind) → AreKinds test ki
 kinds_are test kinds are = kinds_among test test.atoms kinds are
 
 -- and where no refusal is due, each atom has one
-inside_by : (command : Command) (test : LitmusTest) (profile : Profile) → due_for_profile command test profile ≡ None → profile ≡ inside
+inside_by : (command : Command) (test : LitmusTest) (profile : Profile) → due_for_profile command test profile ≡ None
+    → profile ≡ inside
 inside_by command test inside e = refl
 inside_by command test (outside atom kind) e = absurd (cc)
 
-inside_step : (test : LitmusTest) (n : ℕ) (atom : Atom) (atoms : List Atom) (r : Result AtomKind ProfileKind) → kind_of test atom ≡ r
+inside_step : (test : LitmusTest) (n : ℕ) (atom : Atom) (atoms : List Atom) (r : Result AtomKind ProfileKind)
+    → kind_of test atom ≡ r
     → profile_by r n (profile_from test (n + 1) atoms) ≡ inside
-    → (profile_from test (n + 1) atoms ≡ inside → AllZip (λ atom kind. kind_of test atom ≡ Ok kind) atoms (filter_map (λ atom. result_ok (kind_of test atom)) atoms))
-    → AllZip (λ atom kind. kind_of test atom ≡ Ok kind) (atom ∷ atoms) (filter_map (λ atom. result_ok (kind_of test atom)) (atom ∷ atoms))
+    → (profile_from test (n + 1) atoms ≡ inside → AllZip (λ atom kind. kind_of test atom ≡ Ok kind) atoms
+    (filter_map (λ atom. result_ok (kind_of test atom)) atoms))
+    → AllZip (λ atom kind. kind_of test atom ≡ Ok kind) (atom ∷ atoms)
+    (filter_map (λ atom. result_ok (kind_of test atom)) (atom ∷ atoms))
 inside_step test n atom atoms (Ok kind) e p rest =
-    let is : filter_map (λ atom. result_ok (kind_of test atom)) (atom ∷ atoms) ≡ kind ∷ filter_map (λ atom. result_ok (kind_of test atom)) atoms = rw e refl in
+    let is : filter_map (λ atom. result_ok (kind_of test atom)) (atom ∷ atoms) ≡ kind
+    ∷ filter_map (λ atom. result_ok (kind_of test atom)) atoms = rw e refl in
     subst (AllZip (λ atom kind. kind_of test atom ≡ Ok kind) (atom ∷ atoms)) (sym is) (e, rest p)
 inside_step test n atom atoms (Err why) e p rest = absurd (cc)
 
 kinds_from : (test : LitmusTest) (n : ℕ) (atoms : List Atom) → profile_from test n atoms ≡ inside
     → AllZip (λ atom kind. kind_of test atom ≡ Ok kind) atoms (filter_map (λ atom. result_ok (kind_of test atom)) atoms)
 kinds_from test n [] p = tt
-kinds_from test n (atom ∷ atoms) p = inside_step test n atom atoms (kind_of test atom) refl p (kinds_from test (n + 1) atoms)
+kinds_from test n (atom ∷ atoms) p =
+    inside_step test n atom atoms (kind_of test atom) refl p (kinds_from test (n + 1) atoms)
 
-pub none_due_has_kinds : (command : Command) (test : LitmusTest) → due_for_reading command (Accepted test) ≡ None → AreKinds test (kinds_of test)
+pub none_due_has_kinds : (command : Command) (test : LitmusTest) → due_for_reading command (Accepted test) ≡ None
+    → AreKinds test (kinds_of test)
 none_due_has_kinds command test e = kinds_from test 1 test.atoms (inside_by command test (profile_of test) e)

@@ -1,12 +1,12 @@
 -- The parts of the headline, from how a call ended.
-use Rattle.std.proofs.Common.{◌≡◌, ℕ, ◌<◌, List, ◌++◌, length, take, Some, inl, inr, sym, ap, subst, ◌∙◌}
+use Rattle.std.proofs.Common.{◌≡◌, ℕ, ◌<◌, List, ◌++◌, length, take, Some, inl, inr, ap, subst, ◌∙◌}
 use Rattle.x86_subset.specs.Test.{LitmusTest}
-use Rattle.seq_conv.specs.Event.{Event}
+use Rattle.tso_machine.specs.Event.{Event}
 use Rattle.tso_words.specs.Seats.{Ended as Closed}
 use Rattle.tso_runs.specs.Fits.{Fits}
 use Rattle.litmus_reader.specs.Answer.{Accepted}
 use Rattle.litmus_reader.specs.Reading.{Reads}
-use Rattle.litmus_reader.proofs.ReadingLaws.{one_reading}
+use Rattle.litmus_reader.proofs.ReadingLaws.{same_test}
 use Rattle.command_words.specs.declared.job.Command.TheVariants.{Run}
 use Rattle.command_words.specs.Job.{Asked as Job}
 use Rattle.report_text.specs.declared.status.Status.{Status}
@@ -20,17 +20,15 @@ use Rattle.perple_core.specs.Top.{Ended, HasAnswer, IsTextOfRun}
 use Rattle.perple_core.proofs.Accepting.{none_due_has_kinds}
 use Rattle.perple_core.proofs.Endings.{accepts_text, whole_of, part_of, refused_is_no_text}
 
--- a text reads as one test
-same_test : (bytes : List ℕ) (a b : LitmusTest) → Reads bytes (Accepted a) → Reads bytes (Accepted b) → a ≡ b
-same_test bytes a b p q = let same : Accepted a ≡ Accepted b = sym ((one_reading bytes).1 (Accepted a) p) ∙ (one_reading bytes).1 (Accepted b) q in cc
-
 neither_has : {status : Status} → (status ≡ Whole → ⊥) × (status ≡ WriteFault → ⊥) → HasRun status → ⊥
 neither_has neither (inl whole) = neither.0 whole
 neither_has neither (inr part) = neither.1 part
 
 -- a run that ended whole, or with a fault of writing, has its answer
-run_answer : (words : List (List ℕ)) (old new : View) (done : Closed) (out_old out_new : View) (untouched : Type 0) (status : Status)
-    → Ended words old new done out_old out_new untouched status → (job : Job) (bytes : List ℕ) → IsRun words old job bytes → HasRun status
+run_answer : (words : List (List ℕ)) (old new : View) (done : Closed) (out_old out_new : View) (untouched : Type 0)
+    (status : Status)
+    → Ended words old new done out_old out_new untouched status → (job : Job) (bytes : List ℕ)
+    → IsRun words old job bytes → HasRun status
     → HasAnswer (Run job) bytes done (λ _. Unit {0})
 run_answer words old new done out_old out_new untouched _ (ended_whole text answers written) = λ job bytes is has.
     accepts_text words old new done (Run job) bytes text (λ _. Unit {0}) is.command_is is.told answers tt
@@ -39,17 +37,22 @@ run_answer words old new done out_old out_new untouched _ (ended_part text answe
 run_answer words old new done out_old out_new untouched _ (ended_refused status why ran kept) = λ job bytes is has.
     absurd (neither_has (refused_is_no_text words old new status why) has)
 
-pub reads_of : (words : List (List ℕ)) (old new : View) (done : Closed) (out_old out_new : View) (untouched : Type 0) (status : Status)
+pub reads_of : (words : List (List ℕ)) (old new : View) (done : Closed) (out_old out_new : View) (untouched : Type 0)
+    (status : Status)
     → Ended words old new done out_old out_new untouched status → RunReads words old status
 reads_of words old new done out_old out_new untouched status ended = λ job bytes is has.
-    let a : HasAnswer (Run job) bytes done (λ _. Unit {0}) = run_answer words old new done out_old out_new untouched status ended job bytes is has in
+    let a : HasAnswer (Run job) bytes done (λ _. Unit {0}) = run_answer words old new done out_old out_new untouched
+    status ended job bytes is has in
     (a.test, a.reading, none_due_has_kinds (Run job) a.test a.none_due)
 
-pub fits_of : (words : List (List ℕ)) (old new : View) (done : Closed) (out_old out_new : View) (untouched : Type 0) (status : Status)
+pub fits_of : (words : List (List ℕ)) (old new : View) (done : Closed) (out_old out_new : View) (untouched : Type 0)
+    (status : Status)
     → Ended words old new done out_old out_new untouched status → RunFits words old done status
 fits_of words old new done out_old out_new untouched status ended = λ job bytes test is has reading.
-    let a : HasAnswer (Run job) bytes done (λ _. Unit {0}) = run_answer words old new done out_old out_new untouched status ended job bytes is has in
-    subst (λ (t : LitmusTest). SomeRunFits t job.options done) (same_test bytes a.test test a.reading reading) a.right.some_run
+    let a : HasAnswer (Run job) bytes done (λ _. Unit {0}) = run_answer words old new done out_old out_new untouched
+    status ended job bytes is has in
+    subst (λ (t : LitmusTest). SomeRunFits t job.options done) (same_test bytes a.test test a.reading reading)
+    a.right.some_run
 
 -- the answer of a run is the text of each run that fits
 answer_is : (job : Job) (bytes : List ℕ) (test : LitmusTest) (done : Closed) (run : List Event) (IsOn : List ℕ → Type 0)
@@ -57,17 +60,24 @@ answer_is : (job : Job) (bytes : List ℕ) (test : LitmusTest) (done : Closed) (
     → a.answer ≡ text_of test job run
 answer_is job bytes test done run IsOn a reading fits =
     let same : a.test ≡ test = same_test bytes a.test test a.reading reading in
-    let right : IsTextOfRun test job done a.answer = subst (λ (t : LitmusTest). IsTextOfRun t job done a.answer) same a.right in
+    let right : IsTextOfRun test job done a.answer = subst (λ (t : LitmusTest). IsTextOfRun t job done a.answer) same
+    a.right in
     right.each run fits
 
-pub texts_of : (words : List (List ℕ)) (old new : View) (done : Closed) (out_old out_new : View) (untouched : Type 0) (status : Status)
+pub texts_of : (words : List (List ℕ)) (old new : View) (done : Closed) (out_old out_new : View) (untouched : Type 0)
+    (status : Status)
     → Ended words old new done out_old out_new untouched status → RunText words old done out_old out_new status
-texts_of words old new done out_old out_new untouched status ended = λ job bytes before test run is told_out reading fits. (
-  λ whole.
-      let a = whole_of words old new done out_old out_new untouched status ended (Run job) bytes before is.command_is is.told told_out whole in
-      a.is_on ∙ ap (λ t. Some (before ++ t)) (answer_is job bytes test done run (λ answer. out_new.bytes ≡ Some (before ++ answer)) a reading fits),
-  λ fault.
-      let a = part_of words old new done out_old out_new untouched status ended (Run job) bytes before is.command_is is.told told_out fault in
-      subst (λ (t : List ℕ). (n : ℕ) × (n < length t) × (out_new.bytes ≡ Some (before ++ take n t)))
-      (answer_is job bytes test done run (λ answer. (n : ℕ) × (n < length answer) × (out_new.bytes ≡ Some (before ++ take n answer))) a reading fits) a.is_on,
-)
+texts_of words old new done out_old out_new untouched status ended =
+    λ job bytes before test run is told_out reading fits. (
+      λ whole.
+          let a = whole_of words old new done out_old out_new untouched status ended
+          (Run job) bytes before is.command_is is.told told_out whole in
+          a.is_on ∙ ap (λ t. Some (before ++ t)) (answer_is job bytes test done run
+          (λ answer. out_new.bytes ≡ Some (before ++ answer)) a reading fits),
+      λ fault.
+          let a = part_of words old new done out_old out_new untouched status ended
+          (Run job) bytes before is.command_is is.told told_out fault in
+          subst (λ (t : List ℕ). (n : ℕ) × (n < length t) × (out_new.bytes ≡ Some (before ++ take n t)))
+          (answer_is job bytes test done run (λ answer. (n : ℕ) × (n < length answer)
+          × (out_new.bytes ≡ Some (before ++ take n answer))) a reading fits) a.is_on,
+    )

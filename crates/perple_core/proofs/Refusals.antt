@@ -21,17 +21,22 @@ use Rattle.command_words.specs.declared.job.Command.TheVariants.{Run, Replay, Co
 pub refused_from_input : (words : List (List ℕ)) (old new : View) (command : Command) (status : Status)
     → command_of words ≡ Some command → IsInputRefusal command old new status → Refused words old new status
 refused_from_input words old new command _ is input_memory = no_memory
-refused_from_input words old new command _ is (input_reading none rose) = no_reading command (record { command_is = is; no_demo = none }) rose
-refused_from_input words old new command _ is (input_long none over) = too_long command (record { command_is = is; no_demo = none }) over
+refused_from_input words old new command _ is (input_reading none rose) =
+    no_reading command (record { command_is = is; no_demo = none }) rose
+refused_from_input words old new command _ is (input_long none over) =
+    too_long command (record { command_is = is; no_demo = none }) over
 
 pub refused_from_text : (words : List (List ℕ)) (old new : View) (command : Command) (bytes : List ℕ) (status : Status)
-    → Took words old new command bytes → (status ≡ Memory) ⊎ IsDue command bytes (Some status) → Refused words old new status
-refused_from_text words old new command bytes status took (inl memory) = subst (Refused words old new) (sym memory) no_memory
+    → Took words old new command bytes → (status ≡ Memory) ⊎ IsDue command bytes (Some status)
+    → Refused words old new status
+refused_from_text words old new command bytes status took (inl memory) =
+    subst (Refused words old new) (sym memory) no_memory
 refused_from_text words old new command bytes status took (inr is) = no_text status command bytes took is
 
 -- what a command did to the field, where memory ran out
 pub ran_or_still : (words : List (List ℕ)) (old new : View) (done : Closed) (command : Command) (test : LitmusTest)
-    → Accepts words old new command test → IsStill done ⊎ RanFor command test done → IsStillOrRan words old new done Memory
+    → Accepts words old new command test → IsStill done ⊎ RanFor command test done
+    → IsStillOrRan words old new done Memory
 ran_or_still words old new done command test accepts (inl still) = inl still
 ran_or_still words old new done (Run job) test accepts (inr fits) =
     inr (refl, record { job = job; test = test; accepts = accepts; fits = fits })
@@ -40,21 +45,32 @@ ran_or_still words old new done Convert test accepts (inr ran) = absurd ran
 ran_or_still words old new done (Demo k) test accepts (inr ran) = absurd ran
 
 -- the refusal that is due for a text by its form is due for each command
-due_of_form : (command : Command) (answer : Answer) (status : Status) → due_for_form answer ≡ Some status → due_for_reading command answer ≡ Some status
+due_of_form : (command : Command) (answer : Answer) (status : Status) → due_for_form answer ≡ Some status
+    → due_for_reading command answer ≡ Some status
 due_of_form command (Unread refusal) status e = e
 due_of_form command (TooLarge limit) status e = e
 due_of_form command (Accepted test) status e = absurd (cc)
 
-pub due_from_form : (command : Command) (bytes : List ℕ) (status : Status) → (status ≡ Memory) ⊎ IsUnread bytes status → (status ≡ Memory) ⊎ IsDue command bytes (Some status)
+pub due_from_form : (command : Command) (bytes : List ℕ) (status : Status) → (status ≡ Memory) ⊎ IsUnread bytes status
+    → (status ≡ Memory) ⊎ IsDue command bytes (Some status)
 due_from_form command bytes status (inl memory) = inl memory
-due_from_form command bytes status (inr unread) = inr (record { answer = unread.answer; reads = unread.reads; is = due_of_form command unread.answer status unread.is })
+due_from_form command bytes status (inr unread) =
+    inr (record {
+      answer = unread.answer;
+      reads = unread.reads;
+      is = due_of_form command unread.answer status unread.is;
+    })
 
 -- and so is the one that is due for its atoms
-due_of_atoms : (command : Command) (test : LitmusTest) (profile : Profile) (status : Status) → due_for_atoms profile ≡ Some status → due_for_profile command test profile ≡ Some status
+due_of_atoms : (command : Command) (test : LitmusTest) (profile : Profile) (status : Status)
+    → due_for_atoms profile ≡ Some status → due_for_profile command test profile ≡ Some status
 due_of_atoms command test inside status e = absurd (cc)
 due_of_atoms command test (outside atom kind) status e = e
 
-pub due_from_atoms : (command : Command) (bytes : List ℕ) (test : LitmusTest) (status : Status) → Reads bytes (Accepted test)
-    → (status ≡ Memory) ⊎ (due_for_atoms (profile_of test) ≡ Some status) → (status ≡ Memory) ⊎ IsDue command bytes (Some status)
+pub due_from_atoms : (command : Command) (bytes : List ℕ) (test : LitmusTest) (status : Status)
+    → Reads bytes (Accepted test)
+    → (status ≡ Memory) ⊎ (due_for_atoms (profile_of test) ≡ Some status)
+    → (status ≡ Memory) ⊎ IsDue command bytes (Some status)
 due_from_atoms command bytes test status reads (inl memory) = inl memory
-due_from_atoms command bytes test status reads (inr due) = inr (record { answer = Accepted test; reads = reads; is = due_of_atoms command test (profile_of test) status due })
+due_from_atoms command bytes test status reads (inr due) =
+    inr (record { answer = Accepted test; reads = reads; is = due_of_atoms command test (profile_of test) status due })

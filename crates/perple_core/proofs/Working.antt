@@ -1,17 +1,14 @@
 -- How the contract of a run, or of a replay, becomes the right text.
 use Rattle.std.proofs.Common.{◌≡◌, ◌⊎◌, ℕ, ◌≤◌, ◌&&◌, Bool, true, false, List, ◌++◌, None, Result, Ok, Err, String, string_bytes, Global, IfOk, OnErr, nat_lt, inr, refl, sym, ap, ◌∙◌, arith}
 use Rattle.x86_subset.specs.Test.{LitmusTest}
-use Rattle.seq_conv.specs.Event.{Event}
+use Rattle.tso_machine.specs.Event.{Event}
 use Rattle.tso_words.specs.Seats.{Ended as Closed}
 use Rattle.load_log.specs.Values.{Values}
-use Rattle.tso_runs.specs.declared.options.Options.{Options}
-use Rattle.tso_runs.specs.declared.schedule.Schedule.{Schedule}
-use Rattle.tso_runs.specs.Fits.{Fits}
+use Rattle.perp_base.specs.declared.options.Options.{Options}
+use Rattle.perp_base.specs.declared.schedule.Schedule.{Schedule}
 use Rattle.tso_runs.specs.Schedule.{IsScheduled}
 use Rattle.tso_runs.proofs.Fitting.{scheduled_run}
-use Rattle.perp_loop.specs.Crews.{AreWholeFor}
-use Rattle.perp_loop.specs.Crews.{Job as Crew}
-use Rattle.perp_loop.specs.Crews.{HaveValuesOf}
+use Rattle.perp_loop.specs.Crews.{AreWholeFor, HaveValuesOf}
 use Rattle.perp_base.specs.declared.failure.NoMemory.{NoMemory}
 use Rattle.litmus_reader.specs.Answer.{Accepted}
 use Rattle.profile_check.specs.Profile.{CheckedTest, IsChecked, Profile, inside, outside, profile_of}
@@ -38,52 +35,63 @@ asked_few : (asks : Bool) (frames : ℕ) → (asks && nat_lt 4294967296 frames) 
 asked_few true frames e is_so = not_more 4294967296 frames e
 asked_few false frames e is_so = absurd (cc)
 
-pub run_can_count : (job : Job) (test : LitmusTest) → has_too_many_frames (Run job) test ≡ false → CanCountFrames test job.options job.count
+pub run_can_count : (job : Job) (test : LitmusTest) → has_too_many_frames (Run job) test ≡ false
+    → CanCountFrames test job.options job.count
 unfolding has_too_many_frames
 run_can_count job test e = asked_few (asks_exhaustive job.count) (frame_count_of test job.options) e
 
-pub replay_can_count : (job : Job) (test : LitmusTest) → has_too_many_frames (Replay job) test ≡ false → CanCountFrames test job.options job.count
+pub replay_can_count : (job : Job) (test : LitmusTest) → has_too_many_frames (Replay job) test ≡ false
+    → CanCountFrames test job.options job.count
 unfolding has_too_many_frames
 replay_can_count job test e = asked_few (asks_exhaustive job.count) (frame_count_of test job.options) e
 
-pub demo_can_count : (k : ℕ) (test : LitmusTest) → has_too_many_frames (Demo k) test ≡ false → CanCountFrames test (demo_options_of k test) Both
+pub demo_can_count : (k : ℕ) (test : LitmusTest) → has_too_many_frames (Demo k) test ≡ false
+    → CanCountFrames test (demo_options_of k test) Both
 unfolding has_too_many_frames
 demo_can_count k test e = λ is_so. not_more 4294967296 (frame_count_of test (demo_options_of k test)) e
 
-frames_by : (command : Command) (test : LitmusTest) (profile : Profile) (many : Bool) → has_too_many_frames command test ≡ many → due_for_profile command test profile ≡ None → many ≡ false
+frames_by : (command : Command) (test : LitmusTest) (profile : Profile) (many : Bool)
+    → has_too_many_frames command test ≡ many → due_for_profile command test profile ≡ None → many ≡ false
 frames_by command test inside true is e = absurd (let due = rw is at e in cc)
 frames_by command test inside false is e = refl
 frames_by command test (outside atom kind) many is e = absurd (cc)
 
 -- where no refusal is due, there are not too many frames
-pub none_due_has_few : (command : Command) (test : LitmusTest) → due_for_reading command (Accepted test) ≡ None → has_too_many_frames command test ≡ false
+pub none_due_has_few : (command : Command) (test : LitmusTest) → due_for_reading command (Accepted test) ≡ None
+    → has_too_many_frames command test ≡ false
 none_due_has_few command test e = frames_by command test (profile_of test) (has_too_many_frames command test) refl e
 
 -- ---- texts
 
-pub converted : (checked : CheckedTest) (rows : ConversionRows) → IsChecked checked → rows ≡ conversion_rows_of checked.test checked.kinds → conversion_of rows ≡ conversion_text_of checked.test
+pub converted : (checked : CheckedTest) (rows : ConversionRows) → IsChecked checked
+    → rows ≡ conversion_rows_of checked.test checked.kinds → conversion_of rows ≡ conversion_text_of checked.test
 unfolding conversion_text_of
-converted checked rows is e = ap conversion_of (e ∙ ap (conversion_rows_of checked.test) (sym (kinds_are checked.test checked.kinds is.kinds)))
+converted checked rows is e =
+    ap conversion_of (e ∙ ap (conversion_rows_of checked.test) (sym (kinds_are checked.test checked.kinds is.kinds)))
 
--- a crew was replayed by a schedule, and left these logs
-pub record IsReplayed (crew : Crew) (schedule : Schedule) (logs : List Values) : Type 0 where
-  pub made : (run : List Event) × IsScheduled crew.test crew.options schedule run
-  pub every : (run : List Event) → IsScheduled crew.test crew.options schedule run → HaveValuesOf crew.test run logs
-  pub whole : AreWholeFor crew.test crew.options.iterations logs
+-- a test was replayed by a schedule, and left these logs
+pub record IsReplayed (test : LitmusTest) (options : Options) (schedule : Schedule) (logs : List Values) : Type 0 where
+  pub made : (run : List Event) × IsScheduled test options schedule run
+  pub every : (run : List Event) → IsScheduled test options schedule run → HaveValuesOf test run logs
+  pub whole : AreWholeFor test options.iterations logs
 
 -- the report of the run of a schedule
-pub schedule_text : (test : LitmusTest) (options : Options) (schedule : Schedule) (logs : List Values) (gives : List Event → List ℕ) (r : Result (String Global) NoMemory)
-    → IsReplayed (record { test = test; options = options }) schedule logs
+pub schedule_text : (test : LitmusTest) (options : Options) (schedule : Schedule) (logs : List Values)
+    (gives : List Event → List ℕ) (r : Result (String Global) NoMemory)
+    → IsReplayed test options schedule logs
     → IfOk r (λ text. (run : List Event) → HasLogs test options.iterations run logs → string_bytes text ≡ gives run)
     → IfOk r (λ text. IsTextOfSchedule test options schedule gives (string_bytes text))
 schedule_text test options schedule logs gives (Ok text) replayed h = record {
   some_run = replayed.made;
-  each = λ run is. h run (has_logs test options.iterations run logs (scheduled_run test options schedule run is) (replayed.every run is) replayed.whole);
+  each =
+      λ run is. h run (has_logs test options.iterations run logs (scheduled_run test options schedule run is)
+      (replayed.every run is) replayed.whole);
 }
 schedule_text test options schedule logs gives (Err e) replayed h = tt
 
 -- a text in front of that of the run of a schedule
-pub text_behind : (test : LitmusTest) (options : Options) (schedule : Schedule) (front : List ℕ) (gives : List Event → List ℕ) (r : Result (String Global) NoMemory) (text : List ℕ)
+pub text_behind : (test : LitmusTest) (options : Options) (schedule : Schedule) (front : List ℕ)
+    (gives : List Event → List ℕ) (r : Result (String Global) NoMemory) (text : List ℕ)
     → IsTextOfSchedule test options schedule gives text
     → IfOk r (λ whole. string_bytes whole ≡ front ++ text)
     → IfOk r (λ whole. IsTextOfSchedule test options schedule (λ run. front ++ gives run) (string_bytes whole))
@@ -94,14 +102,20 @@ text_behind test options schedule front gives (Ok whole) text is e = record {
 text_behind test options schedule front gives (Err e) text is h = tt
 
 -- the report of a run that threads made
-pub run_text : (test : LitmusTest) (job : Job) (done : Closed) (logs : List Values) (r : Result (String Global) NoMemory)
+pub run_text : (test : LitmusTest) (job : Job) (done : Closed) (logs : List Values)
+    (r : Result (String Global) NoMemory)
     → HasRunOn test job.options done logs
-    → IfOk r (λ text. (run : List Event) → HasLogs test job.options.iterations run logs → string_bytes text ≡ text_of test job run)
+    → IfOk r (λ text. (run : List Event) → HasLogs test job.options.iterations run logs
+    → string_bytes text ≡ text_of test job run)
     → IfOk r (λ text. IsTextOfRun test job done (string_bytes text))
-run_text test job done logs (Ok text) ran h = record { some_run = ran.some_run; each = λ run fits. h run (ran.each run fits) }
+run_text test job done logs (Ok text) ran h = record {
+  some_run = ran.some_run;
+  each = λ run fits. h run (ran.each run fits);
+}
 run_text test job done logs (Err e) ran h = tt
 
-pub run_made : (test : LitmusTest) (options : Options) (done : Closed) (logs : List Values) (r : Result (String Global) NoMemory)
+pub run_made : (test : LitmusTest) (options : Options) (done : Closed) (logs : List Values)
+    (r : Result (String Global) NoMemory)
     → HasRunOn test options done logs
     → OnErr r (IsStill done ⊎ SomeRunFits test options done)
 run_made test options done logs (Ok text) ran = tt

@@ -1,6 +1,7 @@
 -- Which refusal is due for a command and its text: this project's own order of refusals.
 use Rattle.std.specs.Prelude.{◌≡◌, ℕ, ◌≤◌, List, length, Bool, false, Some, None, ◌&&◌, nat_lt, if◌then◌else◌, MatchOption}
 use Rattle.std.specs.declared.option.Option.{Option}
+use Rattle.perp_base.specs.declared.limits.TheConstants.{MOST_BYTES, MOST_FRAMES}
 use Rattle.x86_subset.specs.Test.{LitmusTest}
 use Rattle.litmus_reader.specs.Answer.{Answer, Accepted, Refused as Unread, Over as TooLarge}
 use Rattle.litmus_reader.specs.Reading.{Reads}
@@ -14,7 +15,7 @@ use Rattle.report_text.specs.declared.status.Status.{Status}
 use Rattle.report_text.specs.declared.status.Status.TheVariants.{Memory, Usage, ReadFault, Limit}
 use Rattle.perp_base.specs.Bytes.{GaveAll, IsOver}
 use Rattle.perp_base.specs.Causes.{Rose}
-use Rattle.perple_core.specs.Texts.{asks_exhaustive, demo_options_of, frame_count_of, most_frames}
+use Rattle.perple_core.specs.Texts.{asks_exhaustive, demo_options_of, frame_count_of}
 use Rattle.perp_base.specs.View.{View}
 use Rattle.program_edge.specs.Form.{due_for_atoms, due_for_form}
 
@@ -27,10 +28,11 @@ demo_number (Demo k) = Some k
 
 -- the exhaustive count is asked for, and there are too many frames
 unfoldable pub has_too_many_frames : Command → LitmusTest → Bool
-has_too_many_frames (Run job) test = asks_exhaustive job.count && nat_lt most_frames (frame_count_of test job.options)
-has_too_many_frames (Replay job) test = asks_exhaustive job.count && nat_lt most_frames (frame_count_of test job.options)
+has_too_many_frames (Run job) test = asks_exhaustive job.count && nat_lt MOST_FRAMES (frame_count_of test job.options)
+has_too_many_frames (Replay job) test =
+    asks_exhaustive job.count && nat_lt MOST_FRAMES (frame_count_of test job.options)
 has_too_many_frames Convert test = false
-has_too_many_frames (Demo k) test = nat_lt most_frames (frame_count_of test (demo_options_of k test))
+has_too_many_frames (Demo k) test = nat_lt MOST_FRAMES (frame_count_of test (demo_options_of k test))
 
 abbrev pub due_for_profile : Command → LitmusTest → Profile → Option Status
 due_for_profile command test inside = if has_too_many_frames command test then Some (Limit Frames) else None
@@ -56,7 +58,7 @@ Takes command old new bytes = MatchOption (demo_number command)
 
 -- a text from a source is within the limit of the input
 abbrev pub IsShort : Command → List ℕ → Type 0
-IsShort command text = demo_number command ≡ None → length text ≤ 65536
+IsShort command text = demo_number command ≡ None → length text ≤ MOST_BYTES
 
 -- the words are this command's, and it took this text
 pub record Took (words : List (List ℕ)) (old new : View) (command : Command) (bytes : List ℕ) : Type 0 where
@@ -73,8 +75,10 @@ pub record ReadsSource (words : List (List ℕ)) (command : Command) : Type 0 wh
 pub data Refused (words : List (List ℕ)) (old new : View) : Status → Type 0 where
   no_memory : Refused words old new Memory
   no_command : command_of words ≡ None → new ≡ old → Refused words old new Usage
-  no_reading : (command : Command) → ReadsSource words command → Rose old.faults new.faults → Refused words old new ReadFault
-  too_long : (command : Command) → ReadsSource words command → IsOver old.bytes new.bytes 65536 → Refused words old new (Limit Input)
+  no_reading : (command : Command) → ReadsSource words command → Rose old.faults new.faults
+      → Refused words old new ReadFault
+  too_long : (command : Command) → ReadsSource words command → IsOver old.bytes new.bytes MOST_BYTES
+      → Refused words old new (Limit Input)
   no_text : (status : Status) (command : Command) (bytes : List ℕ) → Took words old new command bytes
       → IsDue command bytes (Some status) → Refused words old new status
 
@@ -82,4 +86,5 @@ pub data Refused (words : List (List ℕ)) (old new : View) : Status → Type 0 
 pub data IsInputRefusal (command : Command) (old new : View) : Status → Type 0 where
   no_memory : IsInputRefusal command old new Memory
   no_reading : demo_number command ≡ None → Rose old.faults new.faults → IsInputRefusal command old new ReadFault
-  too_long : demo_number command ≡ None → IsOver old.bytes new.bytes 65536 → IsInputRefusal command old new (Limit Input)
+  too_long : demo_number command ≡ None → IsOver old.bytes new.bytes MOST_BYTES
+      → IsInputRefusal command old new (Limit Input)

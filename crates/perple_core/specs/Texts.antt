@@ -1,17 +1,17 @@
--- What each command writes on its output: the report of a run, the conversion of a test, and the demo's report. The counts are
--- PerpLE's (Melissaris, Markakis, Shaw and Martonosi, MICRO 2020); the texts are this project's own.
+-- What each command writes on its output: the report of a run, the conversion of a test, and the demo's report. The
+-- counts are PerpLE's (Melissaris, Markakis, Shaw and Martonosi, MICRO 2020); the texts are this project's own.
 use Rattle.std.specs.Prelude.{ℕ, ◌^◌, Bool, true, false, Option, None, Some, List, ◌++◌, length, codes}
 use Rattle.std.specs.List.{filter_map}
 use Rattle.std.specs.Result.{result_ok}
 use Rattle.x86_subset.specs.Test.{LitmusTest}
 use Rattle.x86_subset.specs.declared.test.Quantifier.{Quantifier}
 use Rattle.x86_subset.specs.declared.test.Quantifier.TheVariants.{Exists, NotExists}
-use Rattle.seq_conv.specs.Event.{Event}
+use Rattle.tso_machine.specs.Event.{Event}
 use Rattle.outcome_conv.specs.Hits.{hits_of}
 use Rattle.outcome_conv.specs.Picks.{picked_hits}
-use Rattle.tso_runs.specs.declared.options.Options.{Options}
-use Rattle.tso_runs.specs.declared.schedule.Schedule.{Schedule}
-use Rattle.tso_runs.specs.declared.schedule.Schedule.TheVariants.{Turns, Seeded}
+use Rattle.perp_base.specs.declared.options.Options.{Options}
+use Rattle.perp_base.specs.declared.schedule.Schedule.{Schedule}
+use Rattle.perp_base.specs.declared.schedule.Schedule.TheVariants.{Turns, Seeded}
 use Rattle.command_words.specs.declared.job.Count.{Count}
 use Rattle.command_words.specs.declared.job.Count.TheVariants.{Exhaustive, Heuristic, Both}
 use Rattle.command_words.specs.Job.{Asked as Job}
@@ -89,12 +89,14 @@ conversion_text_of test = conversion_of (conversion_rows_of test (kinds_of test)
 
 -- how a demo is run
 abbrev pub demo_options_of : ℕ → LitmusTest → Options
-demo_options_of k test = record { iterations = demo_iterations_of (length test.bodies); seed = k; rate = 64; buffer = 8 }
+demo_options_of k test = record {
+  iterations = demo_iterations_of (length test.bodies);
+  seed = k;
+  rate = 64;
+  buffer = 8;
+}
 
 -- the text of `demo`: its number, and the report without the lines of the hits
 unfoldable pub demo_report_of : ℕ → LitmusTest → List Event → List ℕ
-demo_report_of k test run = number_line (codes "Demo") k ++ report_of (report_rows test (demo_options_of k test) Both false run)
-
--- the most frames that are counted
-abbrev pub most_frames : ℕ
-most_frames = 4294967296
+demo_report_of k test run =
+    number_line (codes "Demo") k ++ report_of (report_rows test (demo_options_of k test) Both false run)

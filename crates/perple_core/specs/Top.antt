@@ -1,14 +1,16 @@
--- What the top call promises. The runs are those of x86-TSO (Sewell, Sarkar, Owens, Zappa Nardelli and Myreen, CACM 2010), and the
--- counts are PerpLE's (Melissaris, Markakis, Shaw and Martonosi, MICRO 2020); statuses and texts are this project's own.
+-- What the top call promises. The runs are those of x86-TSO (Sewell, Sarkar, Owens, Zappa Nardelli and Myreen, CACM
+-- 2010), and the counts are PerpLE's (Melissaris, Markakis, Shaw and Martonosi, MICRO 2020); statuses and texts are
+-- this project's own.
 use Rattle.std.specs.Prelude.{◌≡◌, ◌⊎◌, ℕ, ◌<◌, All, List, ◌++◌, length, take, drop, Some, None, MatchOption}
 use Rattle.std.specs.Io.KnownBytes.{Appends, IsAtEnd}
 use Rattle.std.specs.Str.{IsAscii}
+use Rattle.perp_base.specs.declared.limits.TheConstants.{MOST_BYTES}
 use Rattle.x86_subset.specs.Test.{LitmusTest}
-use Rattle.seq_conv.specs.Event.{Event}
+use Rattle.tso_machine.specs.Event.{Event}
 use Rattle.tso_words.specs.Seats.{Ended as Closed}
-use Rattle.tso_runs.specs.declared.options.Options.{Options}
-use Rattle.tso_runs.specs.declared.schedule.Schedule.{Schedule}
-use Rattle.tso_runs.specs.declared.schedule.Schedule.TheVariants.{Seeded}
+use Rattle.perp_base.specs.declared.options.Options.{Options}
+use Rattle.perp_base.specs.declared.schedule.Schedule.{Schedule}
+use Rattle.perp_base.specs.declared.schedule.Schedule.TheVariants.{Seeded}
 use Rattle.tso_runs.specs.Fits.{Fits}
 use Rattle.tso_runs.specs.Schedule.{IsScheduled}
 use Rattle.litmus_reader.specs.Answer.{Accepted}
@@ -50,9 +52,11 @@ pub record IsTextOfSchedule (test : LitmusTest) (options : Options) (schedule : 
 -- the text is right for the command, the test and the field
 abbrev pub IsText : Command → LitmusTest → Closed → List ℕ → Type 0
 IsText (Run job) test done text = IsTextOfRun test job done text
-IsText (Replay job) test done text = IsStill done × IsTextOfSchedule test job.options (schedule_of job) (text_of test job) text
+IsText (Replay job) test done text =
+    IsStill done × IsTextOfSchedule test job.options (schedule_of job) (text_of test job) text
 IsText Convert test done text = IsStill done × (text ≡ conversion_text_of test)
-IsText (Demo k) test done text = IsStill done × IsTextOfSchedule test (demo_options_of k test) (Seeded k) (demo_report_of k test) text
+IsText (Demo k) test done text =
+    IsStill done × IsTextOfSchedule test (demo_options_of k test) (Seeded k) (demo_report_of k test) text
 
 -- the command took a text that reads as a test for which no refusal is due
 pub record Accepts (words : List (List ℕ)) (old new : View) (command : Command) (test : LitmusTest) : Type 0 where
@@ -151,19 +155,21 @@ AnswersDue words old new status = (command : Command) (text : List ℕ) (refusal
     → command_of words ≡ Some command → Told command old text → IsShort command text → IsDue command text (Some refusal)
     → (status ≡ refusal) ⊎ ((status ≡ Memory) ⊎ ((status ≡ ReadFault) × Rose old.faults new.faults))
 
--- An input that is too long is answered as such, after one byte more than the limit was taken. It yields to want of memory and to a
--- fault of reading.
+-- An input that is too long is answered as such, after one byte more than the limit was taken. It yields to want of
+-- memory and to a fault of reading.
 abbrev pub AnswersTooLong : List (List ℕ) → View → View → Status → Type 0
 AnswersTooLong words old new status = (command : Command) (text : List ℕ)
-    → command_of words ≡ Some command → demo_number command ≡ None → old.bytes ≡ Some text → 65536 < length text
-    → ((status ≡ Limit Input) × (new.bytes ≡ Some (drop 65537 text))) ⊎ ((status ≡ Memory) ⊎ ((status ≡ ReadFault) × Rose old.faults new.faults))
+    → command_of words ≡ Some command → demo_number command ≡ None → old.bytes ≡ Some text → MOST_BYTES < length text
+    → ((status ≡ Limit Input) × (new.bytes ≡ Some (drop 65537 text)))
+    ⊎ ((status ≡ Memory) ⊎ ((status ≡ ReadFault) × Rose old.faults new.faults))
 
 -- The field moves only in a run, and only where the run's text was made or memory ran out after it.
 pub record IsField (words : List (List ℕ)) (done : Closed) (status : Status) : Type 0 where
   pub other_command : ((job : Job) → command_of words ≡ Some (Run job) → ⊥) → IsStill done
   pub other_status : (status ≡ Whole → ⊥) → (status ≡ WriteFault → ⊥) → (status ≡ Memory → ⊥) → IsStill done
 
--- The text reads as a test for which no refusal is due, and `out` has the right answer to it, or a part of the right answer.
+-- The text reads as a test for which no refusal is due, and `out` has the right answer to it, or a part of the right
+-- answer.
 pub record HasAnswer (command : Command) (text : List ℕ) (done : Closed) (IsOn : List ℕ → Type 0) : Type 0 where
   pub test : LitmusTest
   pub reading : Reads text (Accepted test)
@@ -182,4 +188,5 @@ WritesWhole words old done out_old out_new status = (command : Command) (text be
 abbrev pub WritesPart : List (List ℕ) → View → Closed → View → View → Status → Type 0
 WritesPart words old done out_old out_new status = (command : Command) (text before : List ℕ)
     → command_of words ≡ Some command → Told command old text → out_old.bytes ≡ Some before → status ≡ WriteFault
-    → HasAnswer command text done (λ answer. (n : ℕ) × (n < length answer) × (out_new.bytes ≡ Some (before ++ take n answer)))
+    → HasAnswer command text done (λ answer. (n : ℕ) × (n < length answer)
+    × (out_new.bytes ≡ Some (before ++ take n answer)))

@@ -9,21 +9,14 @@ ghost use Rattle.perple_core.specs.Due.{Refused, due_for_reading};
 ghost use Rattle.perple_core.specs.Top.{IsDemo, IsNamedInAscii, IsText, Answers, RanFor, IsStillOrRan};
 
 use crate::ask::ask;
-use crate::work::{Worked, work};
+use crate::work::work;
 use perp_base::Source;
 use perp_loop::Gate;
-use program_edge::close_unused;
+use program_edge::Answered;
 use report_text::Status;
 use std::alloc::Global;
 use std::thread::Threads;
-use tso_words::{Done, Field};
-
-/// A text or a refusal, and the closed field.
-#[derive(Drop)]
-pub struct Answered {
-    pub text: Result<String, Status>,
-    pub done: Done,
-}
+use tso_words::Field;
 
 /// Answers the words.
 pub fn answer<R: Threads + Sync, S: Source, G: Gate>(
@@ -33,22 +26,21 @@ pub fn answer<R: Threads + Sync, S: Source, G: Gate>(
     source: &mut S,
     field: Field,
     gate: &G,
-) -> Answered
+) -> Answered<Status>
     ensures identity { result.done.identity ≡ field }
-    ensures ok { IfOk result.text (λ text. Answers (bytes_of words.now) (S.seen source.old) (S.seen source.new) result.done (string_bytes text)) }
+    ensures ok { IfOk result.text (λ text. Answers (bytes_of words.now) (S.seen source.old)
+        (S.seen source.new) result.done (string_bytes text)) }
     ensures err { IfErr result.text (Refused (bytes_of words.now) (S.seen source.old) (S.seen source.new)) }
-    ensures done { IfErr result.text (IsStillOrRan (bytes_of words.now) (S.seen source.old) (S.seen source.new) result.done) }
+    ensures done { IfErr result.text (IsStillOrRan (bytes_of words.now) (S.seen source.old)
+        (S.seen source.new) result.done) }
     ensures kind { IfErr result.text HasKind }
     ensures demo { IsDemo (bytes_of words.now) → source.new ≡ source.old }
     ensures misused { command_of (bytes_of words.now) ≡ None → source.new ≡ source.old }
 {
     match ask(alloc, words, source) {
-        Err(status) => Answered {
-            text: Err(status),
-            done: close_unused(field),
-        },
+        Err(status) => Answered::still(Err(status), field),
         Ok(asked) => {
-            let Worked { text, done } = work(
+            let Answered { text, done } = work(
                 rt,
                 alloc,
                 &asked.command,

@@ -6,16 +6,17 @@ ghost use Rattle.litmus_reader.specs.Answer.{Accepted};
 ghost use Rattle.litmus_reader.specs.Reading.{Reads};
 ghost use Rattle.report_text.specs.Status.{HasKind};
 ghost use Rattle.program_edge.specs.View.{bytes_of};
-ghost use Rattle.perple_core.specs.Texts.{asks_exhaustive, frame_count_of, most_frames};
+ghost use Rattle.perple_core.specs.Texts.{asks_exhaustive, frame_count_of};
 ghost use Rattle.perple_core.specs.Due.{IsDue, IsShort, demo_number, due_for_reading, has_too_many_frames, Takes, Refused, IsInputRefusal};
 ghost use Rattle.perple_core.specs.Top.{Accepts, IsDemo, IsNamedInAscii};
+ghost use Rattle.perp_base.specs.declared.limits.TheConstants.{MOST_FRAMES, MOST_ITERATIONS};
 
 use command_words::{Command, Count, Job, WordsError, read_words};
 use demo_text::{demo_iterations, demo_text};
 use frame_count::frames;
-use perp_base::{NoMemory, ReadError, Source, read_input};
+use perp_base::{MOST_BYTES, NoMemory, ReadError, Source, read_input};
 use profile_check::Checked;
-use program_edge::{MOST_BYTES, check_test, read_test};
+use program_edge::{check_test, read_test};
 use report_text::{Over, Status};
 use std::alloc::Global;
 use x86_subset::Test;
@@ -35,20 +36,20 @@ fn demo_number_of(command: &Command) -> Option<u64>
     }
 }
 
-// There are more frames than are counted.
+/// There are more frames than are counted.
 #[tactic(auto, unfolding(crate::specs::Texts::frame_count_of))]
 fn are_too_many(iterations: u32, test: &Test) -> bool
     requires some { 1 ≤ iterations }
-    requires few { iterations ≤ 100000 }
-    ensures { result ≡ nat_lt most_frames (iterations ^ length test.now.bodies) }
+    requires few { iterations ≤ MOST_ITERATIONS }
+    ensures { result ≡ nat_lt MOST_FRAMES (iterations ^ length test.now.bodies) }
 {
     frames(iterations, test.threads()).is_none()
 }
 
-// The frames of a run of this job are more than are counted, where they are to be counted.
+/// The frames of a run of this job are more than are counted, where they are to be counted.
 #[tactic(auto, unfolding(crate::specs::Texts::frame_count_of))]
 fn has_many_frames(job: &Job, test: &Test) -> bool
-    ensures { result ≡ (asks_exhaustive job.now.count && nat_lt most_frames (frame_count_of test.now job.now.options)) }
+    ensures { result ≡ (asks_exhaustive job.now.count && nat_lt MOST_FRAMES (frame_count_of test.now job.now.options)) }
 {
     job.count != Count::Heuristic && are_too_many(job.options.iterations, test)
 }
@@ -65,9 +66,9 @@ fn has_too_many(command: &Command, test: &Test) -> bool
     }
 }
 
-// The text as a test whose atoms can be counted, or the refusal that is due.
+/// The text as a test whose atoms can be counted, or the refusal that is due.
 fn accept(alloc: Global, command: &Command, bytes: &[u8]) -> Result<Checked, Status>
-    requires { length bytes.now ≤ 65536 }
+    requires { length bytes.now ≤ MOST_BYTES }
     ensures reads { IfOk result (λ checked. Reads bytes.now (Accepted checked.test)) }
     ensures none_due { IfOk result (λ checked. due_for_reading command.now (Accepted checked.test) ≡ None) }
     ensures err { IfErr result (λ status. (status ≡ Status.Memory) ⊎ IsDue command.now bytes.now (Some status)) }
@@ -82,17 +83,17 @@ fn accept(alloc: Global, command: &Command, bytes: &[u8]) -> Result<Checked, Sta
     Ok(checked)
 }
 
-// The demo's text, which is short.
+/// The demo's text, which is short.
 fn demo_input(alloc: Global, k: u64) -> Result<Vec<u8>, NoMemory>
     ensures text { IfOk result (λ bytes. bytes.items ≡ demo_text_of k) }
-    ensures short { IfOk result (λ bytes. length bytes.items ≤ 65536) }
+    ensures short { IfOk result (λ bytes. length bytes.items ≤ MOST_BYTES) }
 {
     demo_text(alloc, k)
 }
 
 fn input_of<S: Source>(alloc: Global, command: &Command, source: &mut S) -> Result<Vec<u8>, Status>
     ensures ok { IfOk result (λ bytes. Takes command.now (S.seen source.old) (S.seen source.new) bytes.items) }
-    ensures short { IfOk result (λ bytes. length bytes.items ≤ 65536) }
+    ensures short { IfOk result (λ bytes. length bytes.items ≤ MOST_BYTES) }
     ensures err { IfErr result (IsInputRefusal command.now (S.seen source.old) (S.seen source.new)) }
     ensures kind { IfErr result HasKind }
     ensures demo { IsSome (demo_number command.now) → source.new ≡ source.old }
@@ -113,7 +114,8 @@ fn input_of<S: Source>(alloc: Global, command: &Command, source: &mut S) -> Resu
 
 /// The command of the words, and the test of its text; or the refusal that is due.
 pub fn ask<S: Source>(alloc: Global, words: &[String], source: &mut S) -> Result<Asked, Status>
-    ensures ok { IfOk result (λ asked. Accepts (bytes_of words.now) (S.seen source.old) (S.seen source.new) asked.command asked.checked.test) }
+    ensures ok { IfOk result (λ asked. Accepts (bytes_of words.now) (S.seen source.old)
+        (S.seen source.new) asked.command asked.checked.test) }
     ensures err { IfErr result (Refused (bytes_of words.now) (S.seen source.old) (S.seen source.new)) }
     ensures kind { IfErr result HasKind }
     ensures ascii { IfOk result (λ asked. IsNamedInAscii asked.checked.test) }
@@ -125,12 +127,7 @@ pub fn ask<S: Source>(alloc: Global, words: &[String], source: &mut S) -> Result
         Err(WordsError::Usage) => return Err(Status::Usage),
         Err(WordsError::Memory) => return Err(Status::Memory),
     };
-    let bytes = match input_of(alloc, &command, source) {
-        Ok(bytes) => bytes,
-        Err(status) => return Err(status),
-    };
-    match accept(alloc, &command, &bytes) {
-        Ok(checked) => Ok(Asked { command, checked }),
-        Err(status) => Err(status),
-    }
+    let bytes = input_of(alloc, &command, source)?;
+    let checked = accept(alloc, &command, &bytes)?;
+    Ok(Asked { command, checked })
 }

@@ -1,8 +1,9 @@
 //! The program `perple` as one call over a source, two sinks and a field.
 //!
-//! The headline is the clauses `reads`, `fits`, `text` and `identity` of [`perple`]: where `run` ends whole, the bytes that the source had
-//! left read as a litmus test, what the threads did on the field is what a legal run of x86-TSO does in which each thread performs its
-//! body exactly so often, and the report on `out` is that of every such run. The cause of each status is the clause `ended`.
+//! The headline is the clauses `reads`, `fits`, `text` and `identity` of [`perple`]: where `run` ends whole, the bytes
+//! that the source had left read as a litmus test, what the threads did on the field is what a legal run of x86-TSO
+//! does in which each thread performs its body exactly so often, and the report on `out` is that of every such run. The
+//! cause of each status is the clause `ended`.
 #![tactic(auto)]
 
 mod answer;
@@ -16,8 +17,9 @@ mod work;
 pub use command_words::{Command, Count, Job, WordsError, read_words};
 pub use demo_text::demo_text;
 pub use perp_loop::{Gate, NoGate, Options};
+pub use program_edge::Outcome;
 pub use report_text::Status;
-pub use top::{Outcome, perple};
+pub use top::perple;
 pub use tso_words::{Done, Field};
 
 #[cfg(test)]

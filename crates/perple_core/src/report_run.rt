@@ -1,7 +1,7 @@
 //! The report of a run from its logs, and so of each run that has them.
 ghost use Rattle.std.specs.Prelude.{◌≡◌, ◌⊎◌, ◌↔◌, List, IfOk, IsSome, is_some, option_map, string_bytes};
 ghost use Rattle.std.specs.Str.{IsAscii};
-ghost use Rattle.seq_conv.specs.Event.{Event};
+ghost use Rattle.tso_machine.specs.Event.{Event};
 ghost use Rattle.perp_loop.specs.Crews.{AreWholeFor};
 ghost use Rattle.report_text.specs.Report.{rows_of, report_of};
 ghost use Rattle.perple_core.specs.Texts.{asked, asks_exhaustive, asks_heuristic, frame_count_of, hit_count_of, is_negated, listed_hits_of, report_rows};
@@ -50,11 +50,12 @@ impl Wanted {
     ghost use Rattle.program_edge.specs.Field.{HasLogs};
     ghost use Rattle.perple_core.specs.Counting.{AreCountersOf, IsWanted};
 
-    // The number of frames, where the exhaustive count is asked for.
+    /// The number of frames, where the exhaustive count is asked for.
     fn frames(&self, checked: &Checked) -> Option<u64>
         requires wanted { IsWanted checked.now.test self.now }
         ensures variant { is_some result ≡ asks_exhaustive self.now.count }
-        ensures frames { result ≡ asked (asks_exhaustive self.now.count) (frame_count_of checked.now.test self.now.options) }
+        ensures frames { result ≡ asked (asks_exhaustive self.now.count)
+            (frame_count_of checked.now.test self.now.options) }
     {
         if asks_for_exhaustive(self.count) {
             frames(self.options.iterations, checked.test().threads())
@@ -63,7 +64,7 @@ impl Wanted {
         }
     }
 
-    // The exhaustive count, where it is asked for.
+    /// The exhaustive count, where it is asked for.
     fn count<R: Threads + Sync>(
         &self,
         rt: &R,
@@ -92,7 +93,7 @@ impl Wanted {
         }
     }
 
-    // The listed hits, where they are asked for.
+    /// The listed hits, where they are asked for.
     fn hits<R: Threads + Sync>(
         &self,
         rt: &R,
@@ -123,7 +124,7 @@ impl Wanted {
         }
     }
 
-    // What the report says.
+    /// What the report says.
     #[tactic(auto, unfolding(crate::specs::Texts::report_rows))]
     fn rows<R: Threads + Sync>(
         &self,

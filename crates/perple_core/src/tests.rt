@@ -1,4 +1,4 @@
-// Calls of the program over memory sources and sinks, row by row.
+//! Calls of the program over memory sources and sinks, row by row.
 mod meeting;
 
 use super::*;
@@ -38,7 +38,7 @@ const BUF: &str =
 const DIY: &str =
     "X86 SB\n\"Fre PodWR Fre PodWR\"\nPrefetch=0:x=F,0:y=T,1:y=F,1:x=T\nCom=Fr Fr\nOrig=Fre PodWR Fre PodWR\n{\n}\n P0          | P1          ;\n MOV [x],$1  | MOV [y],$1  ;\n             |             ;\n MOV EAX,[y] | MOV EAX,[x] ;\nlocations [x; y;]\nexists (0:EAX=0 /\\ 1:EAX=0)\n";
 
-// The words, the input, the number of the status, and what is written to both sinks.
+/// The words, the input, the number of the status, and what is written to both sinks.
 const ROWS: [(&str, &str, u8, &str, &str); 23] = [
     (
         "replay 1 --rate 0 --count both",
@@ -197,10 +197,10 @@ const ROWS: [(&str, &str, u8, &str, &str); 23] = [
     ),
 ];
 
-// The most bytes that a call may write: 100,000 lines of hits of two threads.
+/// The most bytes that a call may write: 100,000 lines of hits of two threads.
 const ROOM: usize = 2_097_152;
 
-// The number of the call of the source, of the output and of the error sink that fails. Calls are numbered from 1.
+/// The number of the call of the source, of the output and of the error sink that fails. Calls are numbered from 1.
 #[derive(Clone, Copy)]
 struct Failing {
     read: u64,
@@ -214,7 +214,7 @@ const NEVER: Failing = Failing {
     line: 0,
 };
 
-// How a call ended, what it wrote to both sinks, and the first two words of the field.
+/// How a call ended, what it wrote to both sinks, and the first two words of the field.
 #[derive(Drop)]
 struct Ran {
     status: Status,
@@ -223,7 +223,7 @@ struct Ran {
     words: (u64, u64),
 }
 
-// The words of a line, which stand between single spaces; an empty line has none.
+/// The words of a line, which stand between single spaces; an empty line has none.
 fn words_of(alloc: Global, line: &str) -> Result<Vec<String>, Fail> {
     let mut words = Vec::new(alloc);
     if line.is_empty() {
@@ -235,7 +235,7 @@ fn words_of(alloc: Global, line: &str) -> Result<Vec<String>, Fail> {
     Ok(words)
 }
 
-// A call over a source and sinks that move at most 16 bytes at a time.
+/// A call over a source and sinks that move at most 16 bytes at a time.
 fn call_at<R: Threads + Sync, G: Gate>(
     rt: &R,
     alloc: Global,
@@ -267,12 +267,12 @@ fn call_at<R: Threads + Sync, G: Gate>(
     })
 }
 
-// A call in which nothing fails.
+/// A call in which nothing fails.
 fn call<R: Threads + Sync>(rt: &R, alloc: Global, line: &str, text: &[u8]) -> Result<Ran, Fail> {
     call_at(rt, alloc, line, text, NEVER, &NoGate)
 }
 
-// The call ended so, and wrote this to its sinks.
+/// The call ended so, and wrote this to its sinks.
 fn assert_ended(rt: &impl Abort, ran: &Ran, at: &str, status: u8, out: &[u8], err: &str) {
     assert_eq!(rt; ran.status.number(), status, "status at {at}");
     assert_eq!(rt; ran.out.as_slice(), out, "output at {at}");
@@ -289,8 +289,8 @@ fn rows_are_answered(rt: HostRuntime) -> Result<(), Fail> {
     Ok(())
 }
 
-// The words, the input, and how the report begins, of which the rest is that of the run: also for each line in whose place
-// the format takes another one.
+/// The words, the input, and how the report begins, of which the rest is that of the run: also for each line in whose
+/// place the format takes another one.
 const STARTS: [(&str, &str, &str); 7] = [
     (
         "run 1000",
@@ -342,7 +342,7 @@ fn reports_begin_with_what_was_asked(rt: HostRuntime) -> Result<(), Fail> {
     Ok(())
 }
 
-// The most bytes of a prefix of SB, and the kind and the line with which it is refused.
+/// The most bytes of a prefix of SB, and the kind and the line with which it is refused.
 const PREFIXES: [(usize, u8, u32); 14] = [
     (2, 1, 1),
     (7, 2, 1),
@@ -389,7 +389,8 @@ fn a_long_text_is_refused(rt: HostRuntime) -> Result<(), Fail> {
     Ok(())
 }
 
-// Which call of the source and of the output fails in a replay of SB, the number of the status, and how many bytes are written.
+/// Which call of the source and of the output fails in a replay of SB, the number of the status, and how many bytes are
+/// written.
 const FAILING: [(u64, u64, u8, usize); 17] = [
     (1, 0, 3, 0),
     (2, 0, 3, 0),
@@ -433,8 +434,8 @@ fn each_call_may_fail(rt: HostRuntime) -> Result<(), Fail> {
     Ok(())
 }
 
-// The words, the input, which call of the source, of the output and of the error sink fails, the number of the status, what is
-// written to both sinks, and the first two words of the field.
+/// The words, the input, which call of the source, of the output and of the error sink fails, the number of the status,
+/// what is written to both sinks, and the first two words of the field.
 const LEAVES: [(&str, &str, (u64, u64, u64), u8, &str, &str, (u64, u64)); 6] = [
     (
         "run 3",

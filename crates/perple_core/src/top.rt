@@ -6,27 +6,21 @@ ghost use Rattle.program_edge.specs.View.{bytes_of, Wrote};
 ghost use Rattle.perple_core.specs.Headline.{RunReads, RunFits, RunText};
 ghost use Rattle.perple_core.specs.Top.{IsDemo, Ended, Completes, DemoCompletes, IsUsage, WritesWhole, WritesPart, ReadsToEnd, AnswersDue, AnswersTooLong, IsField};
 
-use crate::answer::{Answered, answer};
+use crate::answer::answer;
 use crate::deliver::deliver;
 use perp_base::{Sink, Source};
 use perp_loop::Gate;
-use program_edge::put_line;
+use program_edge::{Answered, Outcome, put_line};
 use report_text::{Status, refusal_text};
 use std::alloc::Global;
 use std::thread::Threads;
-use tso_words::{Done, Field};
+use tso_words::Field;
 
-/// How a call ended, and the field that it was given, closed.
-#[derive(Drop)]
-pub struct Outcome {
-    pub status: Status,
-    pub done: Done,
-}
-
-/// Does what the words ask for: reads a litmus test from the source, writes the answer to `out`, or the line of a refusal to `err`.
+/// Does what the words ask for: reads a litmus test from the source, writes the answer to `out`, or the line of a
+/// refusal to `err`.
 ///
-/// The words are those after the program's name. The threads of `run` make all their steps on `field`, which is new by its type, and
-/// call `gate` before each iteration. Each call returns.
+/// The words are those after the program's name. The threads of `run` make all their steps on `field`, which is new by
+/// its type, and call `gate` before each iteration. Each call returns.
 pub fn perple<R: Threads + Sync, S: Source, O: Sink, E: Sink, G: Gate>(
     rt: &R,
     alloc: Global,
@@ -36,7 +30,7 @@ pub fn perple<R: Threads + Sync, S: Source, O: Sink, E: Sink, G: Gate>(
     err: &mut E,
     field: Field,
     gate: &G,
-) -> Outcome
+) -> Outcome<Status>
     // The headline, for `run`: what was read, what the threads did on the field, and what was written.
     ensures reads { RunReads (bytes_of words.now) (S.seen source.old) result.status }
     ensures fits { RunFits (bytes_of words.now) (S.seen source.old) result.done result.status }

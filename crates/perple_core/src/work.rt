@@ -19,35 +19,14 @@ use demo_text::demo_iterations;
 use perp_base::NoMemory;
 use perp_loop::{Crew, Gate, Options, Schedule, replay};
 use profile_check::Checked;
-use program_edge::{Ran, close_unused, run_test};
+use program_edge::{Answered, Ran, run_test};
 use report_text::convert_text;
 use seq_conv::Sequences;
 use std::alloc::Global;
 use std::thread::Threads;
-use tso_words::{Done, Field, Traced};
+use tso_words::{Field, Traced};
 
-/// A text or want of memory, and the closed field.
-#[derive(Drop)]
-pub struct Worked {
-    pub text: Result<String, NoMemory>,
-    pub done: Done,
-}
-
-impl Worked {
-    // Want of memory before the first step.
-    fn refused(refused: NoMemory, field: Field) -> Worked
-        ensures identity { result.done.identity ≡ field }
-        ensures text { IsErr result.text }
-        ensures still { IsStill result.done }
-    {
-        Worked {
-            text: Err(refused),
-            done: close_unused(field),
-        }
-    }
-}
-
-// What is wanted of the run of a job.
+/// What is wanted of the run of a job.
 fn wanted_by(job: &Job) -> Wanted
     ensures wanted { (result.options ≡ job.now.options) × (result.count ≡ job.now.count) × (result.show_hits ≡ true) }
     ensures within { IsWithin result.options result.cut }
@@ -60,9 +39,10 @@ fn wanted_by(job: &Job) -> Wanted
     }
 }
 
-// What is wanted of the run of a demo.
+/// What is wanted of the run of a demo.
 fn wanted_of_demo(k: u64, checked: &Checked) -> Wanted
-    ensures wanted { (result.options ≡ demo_options_of k checked.now.test) × (result.count ≡ Count.Both) × (result.show_hits ≡ false) }
+    ensures wanted { (result.options ≡ demo_options_of k checked.now.test) × (result.count ≡ Count.Both)
+        × (result.show_hits ≡ false) }
     ensures within { IsWithin result.options result.cut }
 {
     Wanted {
@@ -87,7 +67,7 @@ fn schedule_for(order: Option<u64>) -> Schedule
     }
 }
 
-// The text of a run that the threads make on the field. All memory that they need is taken before their first step.
+/// The text of a run that the threads make on the field. All memory that they need is taken before their first step.
 #[tactic(auto, unfolding(crate::specs::Texts::text_of))]
 fn run_job<R: Threads + Sync, G: Gate>(
     rt: &R,
@@ -96,7 +76,7 @@ fn run_job<R: Threads + Sync, G: Gate>(
     checked: &Checked,
     field: Field,
     gate: &G,
-) -> Worked
+) -> Answered<NoMemory>
     requires ascii { IsAscii checked.now.test.name }
     requires frames { CanCountFrames checked.now.test job.now.options job.now.count }
     ensures identity { result.done.identity ≡ field }
@@ -105,7 +85,7 @@ fn run_job<R: Threads + Sync, G: Gate>(
 {
     let counters = match Counters::of(alloc, checked) {
         Ok(counters) => counters,
-        Err(refused) => return Worked::refused(refused, field),
+        Err(refused) => return Answered::still(Err(refused), field),
     };
     let wanted = wanted_by(job);
     let Ran { done, logs } = run_test(
@@ -118,18 +98,18 @@ fn run_job<R: Threads + Sync, G: Gate>(
         gate,
     );
     match logs {
-        Ok(logs) => Worked {
+        Ok(logs) => Answered {
             text: wanted.report(rt, alloc, checked, &counters, &logs),
             done,
         },
-        Err(refused) => Worked {
+        Err(refused) => Answered {
             text: Err(refused),
             done,
         },
     }
 }
 
-// The report of the run of a schedule.
+/// The report of the run of a schedule.
 fn replayed<R: Threads + Sync>(
     rt: &R,
     alloc: Global,
@@ -159,12 +139,13 @@ fn replay_text<R: Threads + Sync>(
 ) -> Result<String, NoMemory>
     requires ascii { IsAscii checked.now.test.name }
     requires frames { CanCountFrames checked.now.test job.now.options job.now.count }
-    ensures { IfOk result (λ text. IsTextOfSchedule checked.now.test job.now.options (schedule_of job.now) (text_of checked.now.test job.now) (string_bytes text)) }
+    ensures { IfOk result (λ text. IsTextOfSchedule checked.now.test job.now.options (schedule_of job.now)
+        (text_of checked.now.test job.now) (string_bytes text)) }
 {
     replayed(rt, alloc, &wanted_by(job), schedule_for(job.order), checked)
 }
 
-// The demo's number in front of its report.
+/// The demo's number in front of its report.
 #[tactic(auto, unfolding(report_text::specs::Words::number_line))]
 fn with_number(alloc: Global, k: u64, report: &str) -> Result<String, NoMemory>
     ensures { IfOk result (λ text. string_bytes text ≡ number_line (codes "Demo") k ++ report.now) }
@@ -182,7 +163,8 @@ fn demo_report<R: Threads + Sync>(
 ) -> Result<String, NoMemory>
     requires ascii { IsAscii checked.now.test.name }
     requires frames { CanCountFrames checked.now.test (demo_options_of k checked.now.test) Count.Both }
-    ensures { IfOk result (λ text. IsTextOfSchedule checked.now.test (demo_options_of k checked.now.test) (Schedule.Seeded k) (demo_report_of k checked.now.test) (string_bytes text)) }
+    ensures { IfOk result (λ text. IsTextOfSchedule checked.now.test (demo_options_of k checked.now.test)
+        (Schedule.Seeded k) (demo_report_of k checked.now.test) (string_bytes text)) }
 {
     let wanted = wanted_of_demo(k, checked);
     let report = replayed(rt, alloc, &wanted, Schedule::Seeded(k), checked)?;
@@ -208,7 +190,8 @@ fn still_text<R: Threads + Sync>(
     requires still { IsStillCommand command.now }
     requires ascii { IsNamedInAscii checked.now.test }
     requires frames { has_too_many_frames command.now checked.now.test ≡ false }
-    ensures { IfOk result (λ text. (done : _) → IsStill done → IsText command.now checked.now.test done (string_bytes text)) }
+    ensures { IfOk result (λ text. (done : _) → IsStill done
+        → IsText command.now checked.now.test done (string_bytes text)) }
 {
     match command {
         Command::Run(_) => unreachable!(),
@@ -226,7 +209,7 @@ pub fn work<R: Threads + Sync, G: Gate>(
     checked: &Checked,
     field: Field,
     gate: &G,
-) -> Worked
+) -> Answered<NoMemory>
     requires ascii { IsNamedInAscii checked.now.test }
     requires none_due { due_for_reading command.now (Accepted checked.now.test) ≡ None }
     ensures identity { result.done.identity ≡ field }
@@ -236,8 +219,5 @@ pub fn work<R: Threads + Sync, G: Gate>(
     if let Command::Run(job) = command {
         return run_job(rt, alloc, job, checked, field, gate);
     }
-    Worked {
-        text: still_text(rt, alloc, command, checked),
-        done: close_unused(field),
-    }
+    Answered::still(still_text(rt, alloc, command, checked), field)
 }

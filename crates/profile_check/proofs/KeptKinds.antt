@@ -28,7 +28,8 @@ pub are_kinds : (test : LitmusTest) (kinds : List AtomKind) (i : ℕ) → length
     map (λ (kind : AtomKind). Ok kind) kinds ≡ map (kind_of test) (take i test.atoms) → AreKinds test kinds
 are_kinds test kinds i le e = kept_by test test.atoms kinds i le e
 
-length_by : (test : LitmusTest) (atoms : List Atom) (kinds : List AtomKind) → Kept test atoms kinds → length atoms ≡ length kinds
+length_by : (test : LitmusTest) (atoms : List Atom) (kinds : List AtomKind) → Kept test atoms kinds
+    → length atoms ≡ length kinds
 length_by test [] [] h = refl
 length_by test [] (kind ∷ kinds) h = absurd h
 length_by test (atom ∷ atoms) [] h = absurd h
@@ -38,14 +39,17 @@ length_by test (atom ∷ atoms) (kind ∷ kinds) h = ap suc (length_by test atom
 pub length-kinds : (test : LitmusTest) (kinds : List AtomKind) → AreKinds test kinds → length test.atoms ≡ length kinds
 length-kinds test kinds h = length_by test test.atoms kinds h
 
-kind_by : (test : LitmusTest) (atoms : List Atom) (kinds : List AtomKind) (i : ℕ) (kind : AtomKind) → Kept test atoms kinds → slice_get kinds i ≡ Some kind →
+kind_by : (test : LitmusTest) (atoms : List Atom) (kinds : List AtomKind) (i : ℕ) (kind : AtomKind)
+    → Kept test atoms kinds → slice_get kinds i ≡ Some kind →
     IfSome (slice_get atoms i) (λ atom. kind_of test atom ≡ Ok kind)
 kind_by test [] kinds i kind h e = tt
 kind_by test (atom ∷ atoms) [] i kind h e = absurd h
-kind_by test (atom ∷ atoms) (k ∷ kinds) zero kind h e = let same : k ≡ kind = cc in h.0 ∙ ap (λ (z : AtomKind). Ok z) same
+kind_by test (atom ∷ atoms) (k ∷ kinds) zero kind h e =
+    let same : k ≡ kind = cc in h.0 ∙ ap (λ (z : AtomKind). Ok z) same
 kind_by test (atom ∷ atoms) (k ∷ kinds) (suc i) kind h e = kind_by test atoms kinds i kind h.1 e
 
 -- the kind at a place is that of the atom there
-pub kind_kept : (test : LitmusTest) (kinds : List AtomKind) (i : ℕ) (kind : AtomKind) → AreKinds test kinds → slice_get kinds i ≡ Some kind →
+pub kind_kept : (test : LitmusTest) (kinds : List AtomKind) (i : ℕ) (kind : AtomKind) → AreKinds test kinds
+    → slice_get kinds i ≡ Some kind →
     IfSome (slice_get test.atoms i) (λ atom. kind_of test atom ≡ Ok kind)
 kind_kept test kinds i kind h e = kind_by test test.atoms kinds i kind h e

@@ -1,14 +1,15 @@
--- The kind of an atom: what a condition on a register asks of a run, by the stores of the location that was read. The kinds are
--- named after the rf and fr edges of axiomatic memory models (Alglave, Maranget and Tautschnig, "Herding cats", TOPLAS 2014);
--- which atoms have one is this project's own rule.
+-- The kind of an atom: what a condition on a register asks of a run, by the stores of the location that was read. The
+-- kinds are named after the rf and fr edges of axiomatic memory models (Alglave, Maranget and Tautschnig, "Herding
+-- cats", TOPLAS 2014); which atoms have one is this project's own rule.
 use Rattle.std.specs.Prelude.{◌≡◌, ℕ, ◌==◌, ◌&&◌, Bool, false, not, Option, None, Some, Result, Ok, Err, List, [], ◌∷◌, length, filter, nat_lt, if◌then◌else◌}
-use Rattle.std.specs.List.{AllZip, list_all}
+use Rattle.std.specs.List.{AllZip}
 use Rattle.std.specs.Option.{option_and_then}
 use Rattle.x86_subset.specs.Test.{LitmusTest, column_of, last_writer_of}
 use Rattle.x86_subset.specs.declared.instr.Instr.{Instr}
 use Rattle.x86_subset.specs.declared.instr.Instr.TheVariants.{Store, Load, Fence, Exchange}
 use Rattle.x86_subset.specs.declared.test.Atom.{Atom}
 use Rattle.seq_conv.specs.Sequence.{action_at, site_location, stores_of}
+use Rattle.seq_conv.specs.Writers.{stand_in}
 use Rattle.seq_conv.specs.declared.site.Site.{Site}
 use Rattle.profile_check.specs.declared.kind.AtomKind.{AtomKind}
 use Rattle.profile_check.specs.declared.kind.AtomKind.TheVariants.{Rf, Fr, Exact}
@@ -30,16 +31,13 @@ is_some_of v (Some w) = w == v
 abbrev pub stores_written : LitmusTest → ℕ → ℕ → List Site
 stores_written test x v = filter (λ s. is_some_of v (option_and_then written_of (action_at test s))) (stores_of test x)
 
--- whether all these stores stand in thread w
-abbrev pub stand_in : ℕ → List Site → Bool
-stand_in w stores = list_all (λ s. s.thread == w) stores
-
 -- whether there are stores, all by a single thread that is not t
 abbrev pub stand_in_one_other : ℕ → List Site → Bool
 stand_in_one_other t [] = false
 stand_in_one_other t (s ∷ ss) = stand_in s.thread ss && not (s.thread == t)
 
--- an atom of thread t with a value other than 0, by the stores of its location and by those that were written with the value
+-- an atom of thread t with a value other than 0, by the stores of its location and by those that were written with the
+-- value
 abbrev pub kind_of_value : ℕ → ℕ → List Site → List Site → Result AtomKind ProfileKind
 kind_of_value t column stores [] = Err NoStore
 kind_of_value t column stores (s ∷ []) =

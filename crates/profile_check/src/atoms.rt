@@ -1,15 +1,14 @@
 //! The kind of an atom.
-ghost use Rattle.std.specs.Prelude.{◌≡◌, ◌<◌, All, Some, filter, length, unwrap_or};
-ghost use Rattle.x86_subset.specs.Instr.{location_of};
+ghost use Rattle.std.specs.Prelude.{◌≡◌, ◌<◌, All, Some, filter, length};
 ghost use Rattle.x86_subset.specs.Shape.{IsTest};
 ghost use Rattle.x86_subset.specs.Test.{column_of, last_writer_of};
 ghost use Rattle.seq_conv.specs.Numbers.{AreOf};
 ghost use Rattle.seq_conv.specs.Sequence.{Site, site_location};
-ghost use Rattle.profile_check.specs.Kinds.{kind_at, kind_of, kind_of_value, kind_of_zero, stand_in, stand_in_one_other};
+ghost use Rattle.profile_check.specs.Kinds.{kind_at, kind_of, kind_of_value, kind_of_zero, stand_in_one_other};
 ghost use Rattle.profile_check.specs.Named.{named_of, writes};
 
 use crate::kind::{AtomKind, ProfileKind};
-use seq_conv::{Sequences, Site};
+use seq_conv::{Sequences, Site, stand_in};
 use x86_subset::{Atom, Instr, Test};
 
 /// How many stores there are.
@@ -47,13 +46,6 @@ fn stores_named(test: &Test, value: u32, stores: &[Site]) -> Named
         }
     }
     found
-}
-
-/// Whether all stores stand in a thread.
-fn stand_in(thread: u32, stores: &[Site]) -> bool
-    ensures { result ≡ stand_in thread stores.now }
-{
-    stores.iter().all(|s| s.thread == thread)
 }
 
 /// Whether there are stores, all by a single other thread.
@@ -118,18 +110,6 @@ fn kind_of_zero(reader: u32, column: u32, stores: &[Site]) -> Result<AtomKind, P
     }
 }
 
-/// The location of an action; 0 for a fence, which has none.
-fn location(action: Instr) -> u32
-    ensures { result ≡ unwrap_or (location_of action) 0 }
-{
-    match action {
-        Instr::Store { loc, .. } => loc,
-        Instr::Load { loc, .. } => loc,
-        Instr::Exchange { loc, .. } => loc,
-        Instr::Fence => 0,
-    }
-}
-
 /// The column and the location of the action at a place that a register was read by.
 fn reader_of(test: &Test, atom: Atom, place: usize) -> (u32, u32)
     requires test { IsTest test.now }
@@ -141,7 +121,10 @@ fn reader_of(test: &Test, atom: Atom, place: usize) -> (u32, u32)
 {
     let thread = atom.thread as usize;
     let column = test.column(thread, place).unwrap_or(0);
-    (column as u32, location(test.body(thread)[place]))
+    (
+        column as u32,
+        test.body(thread)[place].location().unwrap_or(0),
+    )
 }
 
 /// The kind of an atom whose register was read by the action at a place.
@@ -155,7 +138,8 @@ fn kind_at(
     requires sequences { AreOf test.now sequences.now }
     requires thread { atom.thread < length test.now.bodies }
     requires place { last_writer_of test.now atom.thread atom.reg ≡ Some place }
-    ensures { result ≡ kind_at test.now atom.thread place (site_location test.now (record { thread = atom.thread; place = place })) atom.value }
+    ensures { result ≡ kind_at test.now atom.thread place (site_location test.now
+        (record { thread = atom.thread; place = place })) atom.value }
 {
     let (column, loc) = reader_of(test, atom, place);
     let stores = sequences.sites(loc);

@@ -51,8 +51,8 @@ impl Checked {
     }
 }
 
-/// The test with the kinds of its atoms, exactly where each atom has one. Else the first atom that has none; the test is
-/// dropped then.
+/// The test with the kinds of its atoms, exactly where each atom has one. Else the first atom that has none; the test
+/// is dropped then.
 pub fn check(alloc: Global, test: Test) -> Result<Checked, ProfileError>
     ensures test { IfOk result (λ checked. checked.test ≡ test) }
     ensures inside { IfOk result (λ checked. profile_of test ≡ inside) }

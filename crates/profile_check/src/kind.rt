@@ -43,8 +43,8 @@ impl ProfileKind {
     }
 }
 
-/// What an atom asks of a run. Its reader is the thread whose register it names, and the column is that of the action that
-/// the register was read by; the writer is a thread, and the place is that of its store. All count from 0.
+/// What an atom asks of a run. Its reader is the thread whose register it names, and the column is that of the action
+/// that the register was read by; the writer is a thread, and the place is that of its store. All count from 0.
 #[derive(Clone, Copy, Debug, PartialEq, Eq)]
 pub enum AtomKind {
     /// The value comes from this store, in the writer's iteration or a later one.
@@ -60,7 +60,8 @@ pub enum AtomKind {
         column: u32,
         writer: u32,
     },
-    /// The value comes from this store, in the writer's iteration or a later one, and is older than the store that follows it.
+    /// The value comes from this store, in the writer's iteration or a later one, and is older than the store that
+    /// follows it.
     Exact {
         reader: u32,
         column: u32,

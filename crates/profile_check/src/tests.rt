@@ -1,3 +1,4 @@
+//! Worked tests inside the profile, and outside of it.
 ghost use Rattle.std.specs.Prelude.{◌<◌, IfOk, IfSome};
 ghost use Rattle.x86_subset.specs.Instr.{location_of};
 ghost use Rattle.x86_subset.specs.Shape.{AreLocated, IsLocated};
@@ -27,13 +28,10 @@ const READ_Y: Instr = Instr::Load {
 fn located(action: Instr) -> Option<Instr>
     ensures { IfSome result (λ a. IfSome (location_of a) (λ x. x < 2)) }
 {
-    let is_low = match action {
-        Instr::Store { loc, .. } => loc < 2,
-        Instr::Load { loc, .. } => loc < 2,
-        Instr::Exchange { loc, .. } => loc < 2,
-        Instr::Fence => true,
-    };
-    if is_low { Some(action) } else { None }
+    match action.location() {
+        Some(loc) if 2 <= loc => None,
+        _ => Some(action),
+    }
 }
 
 fn body(alloc: Global, actions: &[Instr]) -> Result<Body, Fail>
@@ -56,7 +54,7 @@ fn bodies(alloc: Global, threads: &[&[Instr]]) -> Result<Vec<Body>, Fail>
     Ok(bodies)
 }
 
-// These threads over x and y, with a conjunction of two atoms.
+/// These threads over x and y, with a conjunction of two atoms.
 fn test(alloc: Global, threads: &[&[Instr]], first: Atom, second: Atom) -> Result<Test, Fail> {
     let bodies = bodies(alloc, threads)?;
     if bodies.is_empty() {
@@ -76,7 +74,7 @@ fn atom(thread: u32, reg: Reg, value: u32) -> Atom {
     Atom { thread, reg, value }
 }
 
-// What the profile says of an atom.
+/// What the profile says of an atom.
 fn answer(
     alloc: Global,
     threads: &[&[Instr]],

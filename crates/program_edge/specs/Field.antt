@@ -1,14 +1,14 @@
--- What a call leaves on the field that it was given: nothing, or a run of x86-TSO (Sewell, Sarkar, Owens, Zappa Nardelli and Myreen,
--- CACM 2010).
+-- What a call leaves on the field that it was given: nothing, or a run of x86-TSO (Sewell, Sarkar, Owens, Zappa
+-- Nardelli and Myreen, CACM 2010).
 use Rattle.std.specs.Prelude.{◌≡◌, ℕ, List, []}
 use Rattle.x86_subset.specs.Test.{LitmusTest}
-use Rattle.seq_conv.specs.Event.{Event}
-use Rattle.seq_conv.specs.Run.{IsRunOf}
+use Rattle.tso_machine.specs.Event.{Event}
+use Rattle.tso_machine.specs.Run.{IsRunOf}
 use Rattle.load_log.specs.Values.{Values}
-use Rattle.frame_count.specs.RunLogs.{AreLogsOf}
+use Rattle.tso_machine.specs.Log.{AreLogsOf}
 use Rattle.tso_words.specs.History.{eight, zeros}
 use Rattle.tso_words.specs.Seats.{Ended as Closed}
-use Rattle.tso_runs.specs.declared.options.Options.{Options}
+use Rattle.perp_base.specs.declared.options.Options.{Options}
 use Rattle.tso_runs.specs.Fits.{Fits, EndsWith}
 use Rattle.perp_loop.specs.Crews.{AreWholeFor}
 

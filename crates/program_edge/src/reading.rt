@@ -6,15 +6,13 @@ ghost use Rattle.litmus_reader.specs.Reading.{Reads};
 ghost use Rattle.profile_check.specs.Profile.{IsChecked, inside, profile_of};
 ghost use Rattle.report_text.specs.Status.{HasKind};
 ghost use Rattle.program_edge.specs.Form.{IsUnread, due_for_atoms, over_of, status_of_test, status_of_text};
+ghost use Rattle.perp_base.specs.declared.limits.TheConstants.{MOST_BYTES};
 
 use litmus_reader::{LitmusError, read_litmus};
 use profile_check::{Checked, ProfileError, check};
 use report_text::{Over, Status};
 use std::alloc::Global;
 use x86_subset::{Shape, Test};
-
-/// The most bytes that a litmus text may have.
-pub const MOST_BYTES: usize = 65_536;
 
 fn limit_of(shape: Shape) -> Over
     ensures { result ≡ over_of shape }
@@ -54,7 +52,7 @@ fn test_status(error: ProfileError) -> Status
 
 /// The test of a litmus text; or the refusal that is due for its form or its shape.
 pub fn read_test(alloc: Global, bytes: &[u8]) -> Result<Test, Status>
-    requires { length bytes.now ≤ 65536 }
+    requires { length bytes.now ≤ MOST_BYTES }
     ensures reads { IfOk result (λ test. Reads bytes.now (Accepted test)) }
     ensures refuses { IfErr result (λ status. (status ≡ Status.Memory) ⊎ IsUnread bytes.now status) }
     ensures kind { IfErr result HasKind }
@@ -73,7 +71,8 @@ pub fn check_test(alloc: Global, test: Test) -> Result<Checked, Status>
     ensures test { IfOk result (λ checked. checked.test ≡ test) }
     ensures inside { IfOk result (λ checked. profile_of test ≡ inside) }
     ensures checked { IfOk result IsChecked }
-    ensures refuses { IfErr result (λ status. (status ≡ Status.Memory) ⊎ (due_for_atoms (profile_of test) ≡ Some status)) }
+    ensures refuses { IfErr result (λ status. (status ≡ Status.Memory)
+        ⊎ (due_for_atoms (profile_of test) ≡ Some status)) }
     ensures kind { IfErr result HasKind }
 {
     match check(alloc, test) {

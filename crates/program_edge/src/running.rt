@@ -1,7 +1,7 @@
 //! A test is run by threads on a field.
 ghost use Rattle.std.specs.Prelude.{◌≡◌, IfErr, IfOk};
 ghost use Rattle.seq_conv.specs.Numbers.{AreOf};
-ghost use Rattle.tso_runs.specs.Fits.{IsWithinLimits};
+ghost use Rattle.perp_base.specs.Options.{IsWithinLimits};
 ghost use Rattle.program_edge.specs.Field.{HasRunOn, IsStill};
 
 use crate::closing::close_unused;
@@ -21,7 +21,8 @@ pub struct Ran {
     pub logs: Result<Logs, NoMemory>,
 }
 
-/// Runs the threads of a test on the field, as the options say. All memory that they need is taken before their first step.
+/// Runs the threads of a test on the field, as the options say. All memory that they need is taken before their first
+/// step.
 pub fn run_test<R: Threads + Sync, G: Gate>(
     rt: &R,
     alloc: Global,

@@ -21,7 +21,13 @@ pub record ConversionRows : Type 0 where
 
 -- the rows of a `Conversion`
 abbrev pub rows_of : Conversion → ConversionRows
-rows_of r = record { name = r.name; threads = r.threads; stores = r.stores.items; reads = r.reads.items; atoms = r.atoms.items }
+rows_of r = record {
+  name = r.name;
+  threads = r.threads;
+  stores = r.stores.items;
+  reads = r.reads.items;
+  atoms = r.atoms.items;
+}
 
 -- the line of a store, with the value that it writes in iteration n
 unfoldable pub store_line : StoreRow → List ℕ

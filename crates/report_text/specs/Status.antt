@@ -7,15 +7,15 @@ use Rattle.report_text.specs.declared.status.Status.{Status}
 use Rattle.report_text.specs.declared.status.Status.TheVariants.{Whole, Memory, Usage, ReadFault, WriteFault, NotLitmus, OutsideProfile, Limit}
 
 -- the number with which the program ends
-abbrev pub number_of : Status → ℕ
-number_of Whole = 0
-number_of Memory = 1
-number_of Usage = 2
-number_of ReadFault = 3
-number_of WriteFault = 4
-number_of (NotLitmus kind line) = 5
-number_of (OutsideProfile atom kind) = 6
-number_of (Limit over) = 7
+abbrev pub status_number : Status → ℕ
+status_number Whole = 0
+status_number Memory = 1
+status_number Usage = 2
+status_number ReadFault = 3
+status_number WriteFault = 4
+status_number (NotLitmus kind line) = 5
+status_number (OutsideProfile atom kind) = 6
+status_number (Limit over) = 7
 
 -- its kind, where it has one, is one of those below
 abbrev pub HasKind : Status → Type 0

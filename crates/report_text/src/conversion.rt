@@ -1,4 +1,4 @@
-// The conversion of a test into sequences and demands on logged values.
+//! The conversion of a test into sequences and demands on logged values.
 ghost use Rattle.std.specs.Prelude.{◌≡◌, ◌<◌, ◌++◌, All, OnOk, IfOk, string_bytes};
 ghost use Rattle.std.specs.Str.{IsAscii};
 ghost use Rattle.std.specs.List.{flat_map};

@@ -5,7 +5,7 @@
 //! - `report` gives `report_of` of its rows (`specs/Report`).
 //! - `convert_text` gives `conversion_of` of its rows (`specs/Conversion`).
 //! - `refusal_text` gives `line_of` of the status (`specs/Status`), and takes no memory for it.
-//! - `Status::number` is `number_of`, one of the numbers 0 to 7.
+//! - `Status::number` is `status_number`, one of the numbers 0 to 7.
 //!
 //! A definition names its parts, one for each kind of line, and each part has one function that writes it.
 #![tactic(auto)]

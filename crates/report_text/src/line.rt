@@ -1,10 +1,11 @@
-// The line that a status writes on the error sink. It takes no memory.
-ghost use Rattle.std.specs.Prelude.{◌≡◌, ◌<◌, ◌≤◌, ◌+◌, ◌++◌, [], ◌∷◌, length, decimal};
+//! The line that a status writes on the error sink. It takes no memory.
+ghost use Rattle.std.specs.Prelude.{◌≡◌, ◌<◌, ◌≤◌, ◌+◌, ◌++◌, length, decimal};
 ghost use Rattle.arrayvec.specs.ArrayString.{array_string_len};
 ghost use Rattle.report_text.specs.Status.{HasKind, litmus_word, profile_word, limit_text, kind_text, refusal_of, line_of};
 
 use crate::{Over, Status};
 use arrayvec::ArrayString;
+use itoa::Buffer;
 use std::marker::Model;
 
 /// A text of at most 128 bytes, which contracts see as the list of its bytes.
@@ -54,27 +55,13 @@ impl Line {
     }
 }
 
-// Adds one decimal digit.
-fn push_digit(text: &mut ArrayString<128>, digit: u8)
-    requires digit { digit < 10 }
-    requires room { array_string_len text.old < 128 }
-    ensures { text.new.bytes ≡ text.old.bytes ++ (48 + digit) ∷ [] }
-{
-    text.push(char::from(b'0' + digit));
-}
-
-// Adds a number, which has at most ten digits.
+/// Adds a number, which has at most ten digits.
 fn push_number(text: &mut ArrayString<128>, n: u32)
     requires { array_string_len text.old ≤ 118 }
     ensures bytes { text.new.bytes ≡ text.old.bytes ++ decimal n }
     ensures most { array_string_len text.new ≤ array_string_len text.old + 10 }
 {
-    if n < 10 {
-        push_digit(text, n as u8);
-        return;
-    }
-    push_number(text, n / 10);
-    push_digit(text, (n % 10) as u8);
+    text.push_str(Buffer::new().format(n));
 }
 
 fn litmus_word_of(kind: u8) -> &'static str
@@ -131,7 +118,7 @@ fn limit_text_of(over: Over) -> &'static str
     }
 }
 
-// Adds a place, its number, a kind and the kind's word.
+/// Adds a place, its number, a kind and the kind's word.
 #[tactic(auto, unfolding(crate::specs::Status::kind_text))]
 fn push_kind(text: &mut ArrayString<128>, place: &str, at: u32, kind: u8, word: &str)
     requires place { length place.now ≤ 20 }
@@ -148,7 +135,7 @@ fn push_kind(text: &mut ArrayString<128>, place: &str, at: u32, kind: u8, word: 
     text.push_str(word);
 }
 
-// Adds what a status says.
+/// Adds what a status says.
 fn push_refusal(text: &mut ArrayString<128>, status: &Status)
     requires kind { HasKind status.now }
     requires room { array_string_len text.old ≤ 20 }

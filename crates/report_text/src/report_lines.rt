@@ -1,4 +1,4 @@
-// The report of a run or a replay, a function for each kind of line.
+//! The report of a run or a replay, a function for each kind of line.
 ghost use Rattle.std.specs.Prelude.{◌≡◌, ◌⊎◌, ◌↔◌, ◌++◌, OnOk, IfOk, IsSome, string_bytes, option_map};
 ghost use Rattle.std.specs.Str.{IsAscii};
 ghost use Rattle.report_text.specs.Report.{rows_of, condition_line, asked_line, entries_text, hit_line, hit_lines, heuristic_lines, is_seen, seen_line, head_lines, count_lines, report_of};
@@ -63,7 +63,8 @@ fn push_hits(out: &mut String, hits: &[Frame], show: bool) -> Result<(), NoMemor
 
 #[tactic(auto, unfolding(crate::specs::Report::heuristic_lines))]
 fn push_heuristic(out: &mut String, hits: &Option<Vec<Frame>>, show: bool) -> Result<(), NoMemory>
-    ensures { OnOk result (string_bytes out.new ≡ string_bytes out.old ++ heuristic_lines show (option_map (λ v. v.items) hits.now)) }
+    ensures { OnOk result (string_bytes out.new ≡ string_bytes out.old
+        ++ heuristic_lines show (option_map (λ v. v.items) hits.now)) }
 {
     match hits {
         None => Ok(()),

@@ -1,5 +1,5 @@
-// What a report says. The call that writes it stands in a module of its own, since names that differ only in case, as
-// `Report` and `report`, may not stand in one.
+//! What a report says. The call that writes it stands in a module of its own, since names that differ only in case, as
+//! `Report` and `report`, may not stand in one.
 use perp_base::{Frame, Name};
 
 /// What a report says. A count that was not asked for is `None`.

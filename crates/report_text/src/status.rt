@@ -1,6 +1,6 @@
-// How a call of the program ends.
+//! How a call of the program ends.
 ghost use Rattle.std.specs.Prelude.{◌≡◌};
-ghost use Rattle.report_text.specs.Status.{number_of};
+ghost use Rattle.report_text.specs.Status.{status_number};
 
 /// The limit that an input is over.
 #[derive(Clone, Copy, Debug, PartialEq, Eq)]
@@ -43,7 +43,7 @@ pub enum Status {
 impl Status {
     /// The number with which the program ends, from 0 to 7 in the order above.
     pub fn number(&self) -> u8
-        ensures { result ≡ number_of self.now }
+        ensures { result ≡ status_number self.now }
     {
         match self {
             Status::Whole => 0,

@@ -1,3 +1,4 @@
+//! Worked reports, conversions and lines of statuses.
 ghost use Rattle.std.specs.Prelude.{◌≡◌, ◌<◌, All, IfOk};
 ghost use Rattle.std.specs.Str.{IsAscii};
 ghost use Rattle.report_text.specs.Status.{HasKind};
@@ -8,7 +9,7 @@ use std::alloc::Global;
 use std::process::Abort;
 use std::test::Fail;
 
-// The report of store buffering, each thread's body performed once and both reads of 0.
+/// The report of store buffering, each thread's body performed once and both reads of 0.
 const BOTH_COUNTS: &str =
     "Test SB\nThreads 2\nIterations 1\nCondition exists 2\nFrames 1\nExhaustive 1\nHeuristic 1\nHit 0 0\nSeen yes\n";
 
@@ -47,7 +48,7 @@ fn a_report_has_the_lines_that_were_asked_for(rt: HostRuntime) -> Result<(), Fai
     Ok(())
 }
 
-// An ASCII name.
+/// An ASCII name.
 fn name(rt: &impl Abort, alloc: Global, bytes: &[u8]) -> Result<Name, NoMemory>
     ensures { IfOk result IsAscii }
 {
@@ -93,7 +94,7 @@ fn read(
     })
 }
 
-// An atom on a location with one store.
+/// An atom on a location with one store.
 fn atom(form: AtomForm, reader: u32, column: u32, writer: u32) -> AtomRow
     ensures { result.k ≡ 1 }
 {
@@ -107,7 +108,7 @@ fn atom(form: AtomForm, reader: u32, column: u32, writer: u32) -> AtomRow
     }
 }
 
-// Two threads that store to one location, and one that reads it.
+/// Two threads that store to one location, and one that reads it.
 fn two_writers(rt: &impl Abort, alloc: Global) -> Result<Conversion, NoMemory>
     ensures name { IfOk result (λ rows. IsAscii rows.name) }
     ensures stores { IfOk result (λ rows. All (λ row. IsAscii row.loc) rows.stores.items) }
@@ -134,7 +135,7 @@ fn two_writers(rt: &impl Abort, alloc: Global) -> Result<Conversion, NoMemory>
     })
 }
 
-// Store buffering: each thread stores to one location and reads the other.
+/// Store buffering: each thread stores to one location and reads the other.
 fn store_buffering(rt: &impl Abort, alloc: Global) -> Result<Conversion, NoMemory>
     ensures name { IfOk result (λ rows. IsAscii rows.name) }
     ensures stores { IfOk result (λ rows. All (λ row. IsAscii row.loc) rows.stores.items) }
@@ -155,7 +156,7 @@ fn store_buffering(rt: &impl Abort, alloc: Global) -> Result<Conversion, NoMemor
     })
 }
 
-// Message passing: one thread stores to two locations, the other reads them in the other order.
+/// Message passing: one thread stores to two locations, the other reads them in the other order.
 fn message_passing(rt: &impl Abort, alloc: Global) -> Result<Conversion, NoMemory>
     ensures name { IfOk result (λ rows. IsAscii rows.name) }
     ensures stores { IfOk result (λ rows. All (λ row. IsAscii row.loc) rows.stores.items) }

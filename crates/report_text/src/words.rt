@@ -1,4 +1,4 @@
-// Parts of lines, put at the end of a text.
+//! Parts of lines, put at the end of a text.
 ghost use Rattle.std.specs.Prelude.{◌≡◌, ◌++◌, OnOk, string_bytes};
 ghost use Rattle.std.specs.Str.{IsAscii};
 ghost use Rattle.report_text.specs.Words.{number_line, test_line};

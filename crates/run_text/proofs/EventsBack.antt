@@ -94,7 +94,8 @@ unfolding is_blank
 is_thread t h = record { some = omega arith; plain = (decimal_is_word t h).plain }
 
 front_words : (t n p : ℕ) (tail : List ℕ) → t < 2 ^ 64 → n < 2 ^ 64 → p < 2 ^ 64
-    → words ((80 ∷ decimal t) ++ 32 ∷ (decimal n ++ 32 ∷ (decimal p ++ 32 ∷ tail))) ≡ (80 ∷ decimal t) ∷ decimal n ∷ decimal p ∷ words tail
+    → words ((80 ∷ decimal t) ++ 32 ∷ (decimal n ++ 32 ∷ (decimal p ++ 32 ∷ tail))) ≡ (80 ∷ decimal t) ∷ decimal n
+    ∷ decimal p ∷ words tail
 front_words t n p tail ht hn hp =
     cut (80 ∷ decimal t) 32 (decimal n ++ 32 ∷ (decimal p ++ 32 ∷ tail)) (is_thread t ht) blank_32
     ∙ ap (λ ws. (80 ∷ decimal t) ∷ ws) (cut (decimal n) 32 (decimal p ++ 32 ∷ tail) (decimal_is_word n hn) blank_32
@@ -110,7 +111,8 @@ event_back e h =
     let t = wide e.thread h.thread in
     let n = wide e.iteration h.iteration in
     let p = wide e.place h.place in
-    let front : List ℕ → List ℕ = λ text. (80 ∷ decimal e.thread) ++ 32 ∷ (decimal e.iteration ++ 32 ∷ (decimal e.place ++ text)) in
+    let front : List ℕ → List ℕ = λ text. (80 ∷ decimal e.thread) ++ 32
+    ∷ (decimal e.iteration ++ 32 ∷ (decimal e.place ++ text)) in
     ap (λ text. event_of (words (front text))) k.text
     ∙ ap event_of (front_words e.thread e.iteration e.place k.tail t n p)
     ∙ ap (λ ws. event_of ((80 ∷ decimal e.thread) ∷ decimal e.iteration ∷ decimal e.place ∷ ws)) k.reads

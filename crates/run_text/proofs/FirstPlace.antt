@@ -19,7 +19,8 @@ one_on n m (inr l) =
 pub first_here : {X : Type 0} (p : X → Bool) (x : X) (xs : List X) → p x ≡ true → position p (x ∷ xs) ≡ Some 0
 first_here p x xs e =
     let here : position_or_len p (x ∷ xs) ≡ 0 = ap (λ v. cond (not v) (1 + position_or_len p xs) 0) e in
-    ap (λ n. place_of n (length (x ∷ xs))) here ∙ ap (λ b. cond b (Some 0) None) (lt-ltb 0 (length (x ∷ xs)) (omega arith))
+    ap (λ n. place_of n (length (x ∷ xs))) here ∙ ap (λ b. cond b (Some 0) None)
+    (lt-ltb 0 (length (x ∷ xs)) (omega arith))
 
 pub first_later : {X : Type 0} (p : X → Bool) (x : X) (xs : List X) → p x ≡ false
     → position p (x ∷ xs) ≡ option_map suc (position p xs)

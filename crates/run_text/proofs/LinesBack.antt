@@ -25,7 +25,7 @@ lines_together (b ∷ bs) = by_byte (lines_together bs) (b == 10) refl
     by_byte h true e = ap concat (with_feed b bs e) ∙ ap (λ x. 10 ∷ x) h ∙ ap (λ x. x ∷ bs) (sym (eqb-true b 10 e))
     by_byte h false e = ap concat (with_byte b bs e) ∙ onto (lines_of bs) ∙ ap (λ x. b ∷ x) h
 
--- The lines at the front of a text, put together, have those lines; and so have those behind them.
+-- The lines at the front of a text, put together, have those lines; and so have those after them.
 
 abbrev Cuts : List (List ℕ) → Type 0
 Cuts ls = lines_of (concat ls) ≡ ls
@@ -89,7 +89,7 @@ line_cuts text k lt =
     sym (ap lines_of (append-nil l)) ∙ ap (λ m. lines_of (concat (take 1 m))) (sym here)
     ∙ front_cuts (concat (drop k ls)) 1 ∙ ap (take 1) here
 
--- A text that ends with a line feed, and one behind it.
+-- A text that ends with a line feed, and one after it.
 
 onto_more : (b : ℕ) (ls more : List (List ℕ)) → 0 < length ls → onto_first b (ls ++ more) ≡ onto_first b ls ++ more
 onto_more b [] more h = absurd (omega arith)

@@ -6,7 +6,7 @@ use Rattle.load_log.specs.Values.{Values}
 use Rattle.run_text.specs.Logs.{as_log, in_front, numbers_of}
 use Rattle.run_text.specs.Numbers.{large_number}
 
--- numbers behind these
+-- numbers after these
 abbrev pub behind : List ℕ → Option (List ℕ) → Option (List ℕ)
 behind done None = None
 behind done (Some vs) = Some (done ++ vs)
@@ -15,49 +15,71 @@ pub behind_none : (o : Option (List ℕ)) → behind [] o ≡ o
 behind_none None = refl
 behind_none (Some vs) = refl
 
-behind_one : (done : List ℕ) (v : ℕ) (o : Option (List ℕ)) → behind done (in_front (Some v) o) ≡ behind (done ++ v ∷ []) o
+behind_one : (done : List ℕ) (v : ℕ) (o : Option (List ℕ))
+    → behind done (in_front (Some v) o) ≡ behind (done ++ v ∷ []) o
 behind_one done v None = refl
 behind_one done v (Some vs) = ap Some (sym (append_assoc done (v ∷ []) vs))
 
 -- one number more
-pub one_more : (done : List ℕ) (v : ℕ) (w : List ℕ) (ws words : List (List ℕ)) (all : Option (List ℕ)) → Some v ≡ large_number w → words ≡ w ∷ ws → behind done (numbers_of words) ≡ all → behind (done ++ v ∷ []) (numbers_of ws) ≡ all
+pub one_more : (done : List ℕ) (v : ℕ) (w : List ℕ) (ws words : List (List ℕ)) (all : Option (List ℕ))
+    → Some v ≡ large_number w → words ≡ w ∷ ws → behind done (numbers_of words) ≡ all
+    → behind (done ++ v ∷ []) (numbers_of ws) ≡ all
 one_more done v w ws words all h e left =
-    sym (behind_one done v (numbers_of ws)) ∙ ap (λ o. behind done (in_front o (numbers_of ws))) h ∙ ap (λ ws. behind done (numbers_of ws)) (sym e) ∙ left
+    sym (behind_one done v (numbers_of ws)) ∙ ap (λ o. behind done (in_front o (numbers_of ws))) h
+    ∙ ap (λ ws. behind done (numbers_of ws)) (sym e) ∙ left
 
 abbrev LogOf : ℕ → ℕ → Option (List ℕ) → Option Values
 LogOf columns n all = option_and_then (as_log columns n) all
 
 no_log : (columns n : ℕ) (vs : List ℕ) → length vs ≢ columns * n → as_log columns n vs ≡ None
-no_log columns n vs ne = ap (λ b. cond b (Some (record { columns = columns; values = vs; spare = 0 })) None) (ne_eqb (length vs) (columns * n) ne)
+no_log columns n vs ne =
+    ap (λ b. cond b (Some (record { columns = columns; values = vs; spare = 0 })) None)
+    (ne_eqb (length vs) (columns * n) ne)
 
 -- a word that is no number
-pub no_number : (columns n : ℕ) (done : List ℕ) (w : List ℕ) (ws words : List (List ℕ)) (all : Option (List ℕ)) → None ≡ large_number w → words ≡ w ∷ ws → behind done (numbers_of words) ≡ all → None ≡ LogOf columns n all
+pub no_number : (columns n : ℕ) (done : List ℕ) (w : List ℕ) (ws words : List (List ℕ)) (all : Option (List ℕ))
+    → None ≡ large_number w → words ≡ w ∷ ws → behind done (numbers_of words) ≡ all → None ≡ LogOf columns n all
 no_number columns n done w ws words all h e left =
-    let none : all ≡ None = sym left ∙ ap (λ ws. behind done (numbers_of ws)) e ∙ ap (λ o. behind done (in_front o (numbers_of ws))) (sym h) in
+    let none : all ≡ None = sym left ∙ ap (λ ws. behind done (numbers_of ws)) e
+    ∙ ap (λ o. behind done (in_front o (numbers_of ws))) (sym h) in
     sym (ap (LogOf columns n) none)
 
 -- more numbers than the log has
-too_many_by : (columns n v : ℕ) (done : List ℕ) (o : Option (List ℕ)) → length done ≡ columns * n → None ≡ LogOf columns n (behind done (in_front (Some v) o))
+too_many_by : (columns n v : ℕ) (done : List ℕ) (o : Option (List ℕ)) → length done ≡ columns * n
+    → None ≡ LogOf columns n (behind done (in_front (Some v) o))
 too_many_by columns n v done None e = refl
-too_many_by columns n v done (Some vs) e = sym (no_log columns n (done ++ v ∷ vs) (λ same. let l = length-append done (v ∷ vs) in absurd (omega arith)))
+too_many_by columns n v done (Some vs) e =
+    sym (no_log columns n (done ++ v ∷ vs) (λ same. let l = length-append done (v ∷ vs) in absurd (omega arith)))
 
-pub too_many : (columns n v : ℕ) (done : List ℕ) (w : List ℕ) (ws words : List (List ℕ)) (all : Option (List ℕ)) → length done ≡ columns * n → Some v ≡ large_number w → words ≡ w ∷ ws → behind done (numbers_of words) ≡ all → None ≡ LogOf columns n all
+pub too_many : (columns n v : ℕ) (done : List ℕ) (w : List ℕ) (ws words : List (List ℕ)) (all : Option (List ℕ))
+    → length done ≡ columns * n → Some v ≡ large_number w → words ≡ w ∷ ws → behind done (numbers_of words) ≡ all
+    → None ≡ LogOf columns n all
 too_many columns n v done w ws words all long h e left =
     too_many_by columns n v done (numbers_of ws) long
-    ∙ ap (λ o. LogOf columns n (behind done (in_front o (numbers_of ws)))) h ∙ ap (λ ws. LogOf columns n (behind done (numbers_of ws))) (sym e) ∙ ap (LogOf columns n) left
+    ∙ ap (λ o. LogOf columns n (behind done (in_front o (numbers_of ws)))) h
+    ∙ ap (λ ws. LogOf columns n (behind done (numbers_of ws))) (sym e) ∙ ap (LogOf columns n) left
 
-ended : (done : List ℕ) (words : List (List ℕ)) (all : Option (List ℕ)) → words ≡ [] → behind done (numbers_of words) ≡ all → all ≡ Some done
+ended : (done : List ℕ) (words : List (List ℕ)) (all : Option (List ℕ)) → words ≡ []
+    → behind done (numbers_of words) ≡ all → all ≡ Some done
 ended done words all e left = sym left ∙ ap (λ ws. behind done (numbers_of ws)) e ∙ ap Some (append-nil done)
 
 -- fewer
-pub too_few : (columns n : ℕ) (done : List ℕ) (words : List (List ℕ)) (all : Option (List ℕ)) → length done < columns * n → words ≡ [] → behind done (numbers_of words) ≡ all → None ≡ LogOf columns n all
-too_few columns n done words all short e left = sym (ap (LogOf columns n) (ended done words all e left) ∙ no_log columns n done (λ same. omega arith))
+pub too_few : (columns n : ℕ) (done : List ℕ) (words : List (List ℕ)) (all : Option (List ℕ))
+    → length done < columns * n → words ≡ [] → behind done (numbers_of words) ≡ all → None ≡ LogOf columns n all
+too_few columns n done words all short e left =
+    sym (ap (LogOf columns n) (ended done words all e left) ∙ no_log columns n done (λ same. omega arith))
 
 -- exactly as many
-pub exactly : (columns n : ℕ) (log : Values) (words : List (List ℕ)) (all : Option (List ℕ)) → log.columns ≡ columns → log.spare ≡ 0 → length log.values ≡ columns * n → words ≡ [] → behind log.values (numbers_of words) ≡ all
+pub exactly : (columns n : ℕ) (log : Values) (words : List (List ℕ)) (all : Option (List ℕ)) → log.columns ≡ columns
+    → log.spare ≡ 0 → length log.values ≡ columns * n → words ≡ [] → behind log.values (numbers_of words) ≡ all
     → Some log ≡ LogOf columns n all
 exactly columns n log words all c s long e left =
-    let made : log ≡ record { columns = columns; values = log.values; spare = 0 } = λ i. record { columns = c i; values = log.values; spare = s i } in
+    let made : log ≡ record { columns = columns; values = log.values; spare = 0 } = λ i. record {
+      columns = c i;
+      values = log.values;
+      spare = s i;
+    } in
     ap Some made
-    ∙ sym (ap (λ b. cond b (Some (record { columns = columns; values = log.values; spare = 0 })) None) (eq-eqb (length log.values) (columns * n) long))
+    ∙ sym (ap (λ b. cond b (Some (record { columns = columns; values = log.values; spare = 0 })) None)
+    (eq-eqb (length log.values) (columns * n) long))
     ∙ sym (ap (LogOf columns n) (ended log.values words all e left))

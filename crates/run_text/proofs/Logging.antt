@@ -40,7 +40,8 @@ from_first_thread columns n line ls =
     let rows = rows_of 0 line ls in
     let count : 0 + length rows ≡ length rows = omega arith in
     let last = line + length ls - 1 in
-    ap (λ k. unless_refused (option_or (wrong_line columns n rows) (missing columns last k)) (filter_map (log_in columns n) rows))
+    ap (λ k. unless_refused (option_or (wrong_line columns n rows) (missing columns last k))
+    (filter_map (log_in columns n) rows))
     count
 
 last_is : (line : ℕ) (ls : List (List ℕ)) → line + suc (length ls) - 1 ≡ line + 1 + length ls - 1
@@ -67,10 +68,12 @@ abbrev by_told : List ℕ → ℕ → ℕ → ℕ → Numbered → List Numbered
 by_told columns n last count row rows told =
     let wrong = find (λ (l : Numbered). is_none (log_in columns n l)) rows in
     let first = option_map (λ (l : Numbered). l.1.0) (cond (is_none told) (Some row) wrong) in
-    unless_refused (option_or first (missing columns last count)) (cons_option told (filter_map (log_in columns n) rows))
+    unless_refused (option_or first (missing columns last count))
+    (cons_option told (filter_map (log_in columns n) rows))
 
 told_first : (columns : List ℕ) (n last t : ℕ) (row : Numbered) (rows : List Numbered) (log : Values)
-    → log_in columns n row ≡ Some log → given columns n last t (row ∷ rows) ≡ onto_all (log ∷ []) (given columns n last (t + 1) rows)
+    → log_in columns n row ≡ Some log → given columns n last t (row ∷ rows)
+    ≡ onto_all (log ∷ []) (given columns n last (t + 1) rows)
 told_first columns n last t row rows log e =
     let count : t + suc (length rows) ≡ t + 1 + length rows = omega arith in
     ap (by_told columns n last (t + suc (length rows)) row rows) e
@@ -99,13 +102,15 @@ none_left columns n line t full =
 pub some_left : (columns : List ℕ) (n line t : ℕ) → t < length columns → logs_from columns n line t [] ≡ Err (line - 1)
 some_left columns n line t short =
     let last : line + 0 - 1 ≡ line - 1 = omega arith in
-    ap (λ b. unless_refused (cond b (Some (line + 0 - 1)) None) []) (lt-ltb (t + 0) (length columns) (omega arith)) ∙ ap Err last
+    ap (λ b. unless_refused (cond b (Some (line + 0 - 1)) None) []) (lt-ltb (t + 0) (length columns) (omega arith))
+    ∙ ap Err last
 
 -- ---- the lines from a place on
 
--- what the lines from a place on say, behind these logs
+-- what the lines from a place on say, after these logs
 abbrev pub from_place : List ℕ → ℕ → List ℕ → ℕ → List Values → ℕ → Said
-from_place columns k text line done at = onto_all done (logs_from columns k line (length done) (lines_of (drop at text)))
+from_place columns k text line done at =
+    onto_all done (logs_from columns k line (length done) (lines_of (drop at text)))
 
 pub from_start : (columns : List ℕ) (k : ℕ) (text : List ℕ) (line : ℕ)
     → from_place columns k text line [] 0 ≡ logs_of columns k line (lines_of text)
@@ -113,7 +118,8 @@ from_start columns k text line =
     onto_none (logs_from columns k line 0 (lines_of text)) ∙ from_first_thread columns k line (lines_of text)
 
 step : (columns : List ℕ) (k : ℕ) (text this : List ℕ) (at n line t : ℕ) → IsLine text this at n
-    → logs_from columns k line t (lines_of (drop at text)) ≡ logs_from columns k line t (this ∷ lines_of (drop (at + n) text))
+    → logs_from columns k line t (lines_of (drop at text))
+    ≡ logs_from columns k line t (this ∷ lines_of (drop (at + n) text))
 step columns k text this at n line t is = ap (logs_from columns k line t) (lines_at text this at n is)
 
 pub nothing_said : (columns : List ℕ) (k : ℕ) (text this : List ℕ) (at n line : ℕ) (done : List Values) (all : Said)
@@ -124,9 +130,11 @@ nothing_said columns k text this at n line done all is w left =
     let blank = blank_first columns k line t this (lines_of (drop (at + n) text)) (sym w) in
     sym (ap (onto_all done) (step columns k text this at n line t is ∙ blank)) ∙ left
 
-pub one_said : (columns : List ℕ) (k : ℕ) (text this : List ℕ) (at n line : ℕ) (done : List Values) (log : Values) (all : Said)
+pub one_said : (columns : List ℕ) (k : ℕ) (text this : List ℕ) (at n line : ℕ) (done : List Values) (log : Values)
+    (all : Said)
     → IsLine text this at n → true ≡ has_words this → Some log ≡ log_for columns k (length done) (words this)
-    → from_place columns k text line done at ≡ all → from_place columns k text (line + 1) (done ++ log ∷ []) (at + n) ≡ all
+    → from_place columns k text line done at ≡ all
+    → from_place columns k text (line + 1) (done ++ log ∷ []) (at + n) ≡ all
 one_said columns k text this at n line done log all is w h left =
     let t = length done in
     let ls = lines_of (drop (at + n) text) in
@@ -150,7 +158,8 @@ all_said columns k text at line done all le full left =
     ∙ ap (onto_all done) (none_left columns k line (length done) full) ∙ ap Ok (append-nil done)
 
 pub one_missing : (columns : List ℕ) (k : ℕ) (text : List ℕ) (at line : ℕ) (done : List Values) (all : Said)
-    → length text ≤ at → length done < length columns → from_place columns k text line done at ≡ all → all ≡ Err (line - 1)
+    → length text ≤ at → length done < length columns → from_place columns k text line done at ≡ all
+    → all ≡ Err (line - 1)
 one_missing columns k text at line done all le short left =
     sym left ∙ ap (λ t. onto_all done (logs_from columns k line (length done) (lines_of t))) (drop_all at text le)
     ∙ ap (onto_all done) (some_left columns k line (length done) short)

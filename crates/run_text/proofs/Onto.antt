@@ -1,8 +1,8 @@
--- What lines say, behind what the lines in front of them said.
+-- What lines say, after what the lines in front of them said.
 use Rattle.std.proofs.Common.{◌≡◌, ℕ, Option, None, Some, List, [], ◌∷◌, ◌++◌, Result, Ok, Err, refl, sym, ap, append_assoc}
 use Rattle.run_text.specs.Lines.{unless_refused}
 
--- what later lines say, behind these
+-- what later lines say, after these
 abbrev pub onto_all : {X : Type 0} → List X → Result (List X) ℕ → Result (List X) ℕ
 onto_all done (Ok more) = Ok (done ++ more)
 onto_all done (Err bad) = Err bad

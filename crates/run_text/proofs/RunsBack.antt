@@ -1,4 +1,4 @@
--- A run that is written behind a litmus text is read back.
+-- A run that is written after a litmus text is read back.
 use Rattle.std.proofs.Common.{◌≡◌, ℕ, ◌+◌, ◌^◌, ◌<◌, ◌≤◌, ◌&&◌, true, false, cond, None, Some, List, [], ◌∷◌, ◌++◌, All, codes, decimal, get_or, is_none, length, map, nat_le, position, filter_map, Ok, option_map, refl, sym, ap, ◌∙◌, subst, arith, le-leb, le-ltb}
 use Rattle.std.proofs.lemmas.Bool.{and_right, ne_eqb}
 use Rattle.std.proofs.lemmas.Fmt.{decimal_is_IsNumeral}
@@ -50,7 +50,8 @@ line_fed : (e : RunEvent) → IsOfWidth e → IsFed (line_of e)
 line_fed e h =
     let place = behind_decimal e.place (kind_text e.kind) (wide e.place h.place) (kind_fed e.kind h.value) in
     let iteration = number_fed e.iteration (decimal e.place ++ kind_text e.kind) h.iteration place in
-    let thread = number_fed e.thread (decimal e.iteration ++ (codes " " ++ (decimal e.place ++ kind_text e.kind))) h.thread iteration in
+    let thread = number_fed e.thread (decimal e.iteration ++ (codes " " ++ (decimal e.place ++ kind_text e.kind)))
+    h.thread iteration in
     λ rest. ap (onto_first 80) (thread rest)
 
 -- ---- the section line
@@ -101,7 +102,8 @@ parts_back litmus n events h low high w =
     behind_litmus litmus (run_text_of n events) h.ends ∙ ap (λ ls. front ++ ls) (run_lines n events (omega arith) w) in
     ap (parted (codes "%events")) lines
     ∙ parted_here (codes "%events") front (section_line n) (map line_of events) n h.plain (section_tells n low high)
-    ∙ ap (λ l. Some (record { litmus = l; iterations = n; line = length front + 2; lines = map line_of events })) (lines_together litmus)
+    ∙ ap (λ l. Some (record { litmus = l; iterations = n; line = length front + 2; lines = map line_of events }))
+    (lines_together litmus)
 
 -- ---- its events
 

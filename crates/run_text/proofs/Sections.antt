@@ -23,7 +23,7 @@ len_within text at n lt e =
     let w = line_within (tail_of text at) (omega arith) in
     (omega arith, omega arith)
 
--- the lines from a place on: the line there, and those behind it
+-- the lines from a place on: the line there, and those after it
 pub lines_from : (text : List ℕ) (at n : ℕ) → at < length text → n ≡ line_end (tail_of text at)
     → lines_of (drop at text) ≡ take n (drop at text) ∷ lines_of (drop (at + n) text)
 lines_from text at n lt e =
@@ -50,11 +50,11 @@ lines_at text this at n is =
 
 -- ---- the section of lines, by their first
 
--- a section of the lines behind this one
+-- a section of the lines after this one
 abbrev one_behind : List ℕ → Split → Split
 one_behind l s = record { litmus = l ++ s.litmus; iterations = s.iterations; line = s.line + 1; lines = s.lines }
 
--- the section behind the line at place k
+-- the section after the line at place k
 abbrev told_at : List ℕ → List (List ℕ) → ℕ → Option Split
 told_at heading lines k = option_map (parted_at lines k) (iterations_of heading (words (get_or lines k [])))
 
@@ -70,7 +70,12 @@ one_on l ls k None = refl
 one_on l ls k (Some n) =
     let line : suc k + 2 ≡ k + 2 + 1 = omega arith in
     let place : suc k + 1 ≡ suc (k + 1) = omega arith in
-    λ i. Some (record { litmus = l ++ concat (take k ls); iterations = n; line = line i; lines = drop (place i) (l ∷ ls) })
+    λ i. Some (record {
+      litmus = l ++ concat (take k ls);
+      iterations = n;
+      line = line i;
+      lines = drop (place i) (l ∷ ls);
+    })
 
 later_by : (heading l : List ℕ) (ls : List (List ℕ)) (o : Option ℕ)
     → option_and_then (told_at heading (l ∷ ls)) (option_map suc o)
@@ -86,7 +91,7 @@ parted_later heading l ls e =
 
 -- ---- the search from a place on
 
--- a section of lines, the first of which has this number, behind this text
+-- a section of lines, the first of which has this number, after this text
 abbrev pub behind : ℕ → List ℕ → Split → Split
 behind line front s =
     record { litmus = front ++ s.litmus; iterations = s.iterations; line = line + s.line - 1; lines = s.lines }
@@ -105,13 +110,18 @@ one_more_behind line front l (Some s) =
     let text : front ++ (l ++ s.litmus) ≡ (front ++ l) ++ s.litmus = sym (append_assoc front l s.litmus) in
     λ i. Some (record { litmus = text i; iterations = s.iterations; line = number i; lines = s.lines })
 
--- what the lines from a place on give, behind the text in front of it
+-- what the lines from a place on give, after the text in front of it
 abbrev pub from_place : List ℕ → List ℕ → ℕ → ℕ → Option Split
 from_place heading text line at = option_map (behind line (take at text)) (parted heading (lines_of (drop at text)))
 
 pub section_here : (heading text this : List ℕ) (at n line it : ℕ) (all : Option Split) → IsLine text this at n
     → Some it ≡ iterations_of heading (words this) → from_place heading text line at ≡ all
-    → Some (record { litmus = take at text; iterations = it; line = line + 1; lines = lines_of (tail_of text (at + n)) })
+    → Some (record {
+      litmus = take at text;
+      iterations = it;
+      line = line + 1;
+      lines = lines_of (tail_of text (at + n));
+    })
     ≡ all
 section_here heading text this at n line it all is e left =
     let ls = lines_of (drop (at + n) text) in
@@ -122,7 +132,8 @@ section_here heading text this at n line it all is e left =
     let front : take at text ≡ take at text ++ [] = sym (append-nil (take at text)) in
     let number : line + 1 ≡ line + 2 - 1 = omega arith in
     let rest = tail_is text (at + n) in
-    (λ i. Some (record { litmus = front i; iterations = it; line = number i; lines = lines_of (rest i) })) ∙ sym found ∙ left
+    (λ i. Some (record { litmus = front i; iterations = it; line = number i; lines = lines_of (rest i) })) ∙ sym found
+    ∙ left
 
 pub section_later : (heading text this : List ℕ) (at n line : ℕ) (all : Option Split) → IsLine text this at n
     → None ≡ iterations_of heading (words this) → from_place heading text line at ≡ all

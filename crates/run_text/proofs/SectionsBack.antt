@@ -13,7 +13,7 @@ use Rattle.run_text.specs.Lines.{lines_of}
 use Rattle.run_text.specs.Sections.{Split, is_section_line, iterations_of, parted, parted_at}
 use Rattle.run_text.proofs.LinesBack.{front_cuts, line_cuts, lines_together, rest_cuts}
 
--- the lines in front of the first section line, it, and those behind it
+-- the lines in front of the first section line, it, and those after it
 put_together : (lines : List (List ℕ)) (k : ℕ) → k < length lines
     → concat lines ≡ concat (take k lines) ++ (get_or lines k [] ++ concat (drop (k + 1) lines))
 put_together lines k lt =
@@ -40,7 +40,8 @@ parted_so heading input k n e t =
       one = line_cuts input k f.0;
       tells = t;
       first =
-          All-same (λ l. is_section_line heading l ≡ false) (lines_of (concat (take k lines))) (take k lines) front plain;
+          All-same (λ l. is_section_line heading l ≡ false) (lines_of (concat (take k lines)))
+          (take k lines) front plain;
       line = sym (ap (λ ls. length ls + 2) front ∙ ap (λ m. m + 2) few);
       lines = rest_cuts input (k + 1);
     }
@@ -51,10 +52,12 @@ by_line : (heading input : List ℕ) (s : Split) (k : ℕ) (n : Option ℕ)
     → option_map (parted_at (lines_of input) k) n ≡ Some s → IsParted heading input s
 by_line heading input s k None e t h = cc
 by_line heading input s k (Some n) e t h =
-    subst (IsParted heading input) (let same : parted_at (lines_of input) k n ≡ s = cc in same) (parted_so heading input k n e t)
+    subst (IsParted heading input) (let same : parted_at (lines_of input) k n ≡ s = cc in same)
+    (parted_so heading input k n e t)
 
 by_place : (heading input : List ℕ) (s : Split) (o : Option ℕ) → position (is_section_line heading) (lines_of input) ≡ o
-    → option_and_then (λ k. option_map (parted_at (lines_of input) k) (iterations_of heading (words (get_or (lines_of input) k [])))) o ≡ Some s → IsParted heading input s
+    → option_and_then (λ k. option_map (parted_at (lines_of input) k)
+    (iterations_of heading (words (get_or (lines_of input) k [])))) o ≡ Some s → IsParted heading input s
 by_place heading input s None e h = cc
 by_place heading input s (Some k) e h =
     by_line heading input s k (iterations_of heading (words (get_or (lines_of input) k []))) e refl h
@@ -71,13 +74,19 @@ place_behind heading front l more h e =
     let all = front ++ l ∷ more in
     let long : length front < length all = omega (arith, length-append front (l ∷ more)) in
     let place : position_or_len p all ≡ length front = position_or_len_is p all (length front) [] (omega arith)
-    (λ k lt. ap p (get_or-append front (l ∷ more) [] k lt) ∙ h k [] lt) (λ lt. ap p (get_or-append_seam front l more []) ∙ e) in
+    (λ k lt. ap p (get_or-append front (l ∷ more) [] k lt) ∙ h k [] lt)
+    (λ lt. ap p (get_or-append_seam front l more []) ∙ e) in
     ap (λ k. cond (nat_lt k (length all)) (Some k) None) place
     ∙ ap (λ b. cond b (Some (length front)) None) (lt-ltb (length front) (length all) long)
 
 pub parted_here : (heading : List ℕ) (front : List (List ℕ)) (l : List ℕ) (more : List (List ℕ)) (n : ℕ)
     → All (λ m. is_section_line heading m ≡ false) front → iterations_of heading (words l) ≡ Some n
-    → parted heading (front ++ l ∷ more) ≡ Some (record { litmus = concat front; iterations = n; line = length front + 2; lines = more })
+    → parted heading (front ++ l ∷ more) ≡ Some (record {
+      litmus = concat front;
+      iterations = n;
+      line = length front + 2;
+      lines = more;
+    })
 parted_here heading front l more n h e =
     let all = front ++ l ∷ more in
     let k = length front in
@@ -87,7 +96,8 @@ parted_here heading front l more n h e =
     let section : is_section_line heading l ≡ true = rw e refl in
     let before : take k all ≡ front = take_at front (l ∷ more) k refl in
     let behind : drop (k + 1) all ≡ more = drop-append-add front (l ∷ more) 1 in
-    ap (option_and_then (λ i. option_map (parted_at all i) (iterations_of heading (words (get_or all i []))))) (place_behind heading front l more h section)
+    ap (option_and_then (λ i. option_map (parted_at all i) (iterations_of heading (words (get_or all i [])))))
+    (place_behind heading front l more h section)
     ∙ ap (option_map (parted_at all k)) tells
     ∙ ap (λ ls. Some (record { litmus = concat ls; iterations = n; line = k + 2; lines = drop (k + 1) all })) before
     ∙ ap (λ ls. Some (record { litmus = concat front; iterations = n; line = k + 2; lines = ls })) behind

@@ -16,7 +16,7 @@ Told = Result (List RunEvent) ℕ
 
 -- ---- the events of lines, by the first
 
--- the number of the line at this place behind the first
+-- the number of the line at this place after the first
 abbrev number : ℕ → Option ℕ → Option ℕ
 number line place = option_map (λ k. line + k) place
 
@@ -75,7 +75,8 @@ nothing_told text this at n line es all is e w left =
     let blank = blank_first line this (lines_of (drop (at + n) text)) (sym e) (sym w) in
     sym (ap (onto_all es) (step text this at n line is ∙ blank)) ∙ left
 
-pub one_told : (text this : List ℕ) (at n line : ℕ) (es : List RunEvent) (event : RunEvent) (all : Told) → IsLine text this at n
+pub one_told : (text this : List ℕ) (at n line : ℕ) (es : List RunEvent) (event : RunEvent) (all : Told)
+    → IsLine text this at n
     → Some event ≡ event_in this → onto_all es (events_from text line at) ≡ all
     → onto_all (es ++ event ∷ []) (events_from text (line + 1) (at + n)) ≡ all
 one_told text this at n line es event all is e left =

@@ -11,7 +11,7 @@ use Rattle.std.specs.List.{list_all, slice_split}
 use Rattle.std.specs.Str.Parse.{AllDigits}
 use Rattle.x86_subset.specs.Token.{is_blank}
 use Rattle.litmus_reader.specs.Front.{words}
-use Rattle.run_text.specs.Numbers.{large_number, number_in, small_number}
+use Rattle.run_text.specs.Numbers.{large_number, number_up_to, small_number}
 use Rattle.run_text.proofs.FirstWord.{is_word_byte, kept}
 
 -- a word: some bytes, none of which is a blank
@@ -52,7 +52,7 @@ decimal_is_word n h = record {
 }
 
 -- a decimal is read as its number
-pub number_back : (most n : ℕ) → n ≤ most → n < 2 ^ 64 → number_in most (decimal n) ≡ Some n
+pub number_back : (most n : ℕ) → n ≤ most → n < 2 ^ 64 → number_up_to most (decimal n) ≡ Some n
 number_back most n h k =
     let digits : list_all is_ascii_digit (decimal n) ≡ true =
     by_digits is_ascii_digit digit_is_digit (decimal n) (decimal_is_IsNumeral n k).0.1 in

@@ -25,7 +25,7 @@ abbrev pub kind_with : List ℕ → Option ℕ → Option RunKind
 kind_with verb None = None
 kind_with verb (Some v) = valued_kind verb v
 
--- the kind that a word and the words behind it tell
+-- the kind that a word and the words after it tell
 abbrev pub kind_of : List ℕ → List (List ℕ) → Option RunKind
 kind_of verb [] = plain_kind verb
 kind_of verb (v ∷ []) = kind_with verb (large_number v)
@@ -48,8 +48,8 @@ event_in line = event_of (words line)
 abbrev pub lacks_form : List ℕ → Bool
 lacks_form line = has_words line && is_none (event_in line)
 
--- the events of lines, the first of which has this number: lines without words are skipped, and the first that lacks the
--- form is refused
+-- the events of lines, the first of which has this number: lines without words are skipped, and the first that lacks
+-- the form is refused
 abbrev pub events_of : ℕ → List (List ℕ) → Result (List RunEvent) ℕ
 events_of line lines =
     unless_refused (option_map (λ k. line + k) (position lacks_form lines)) (filter_map event_in lines)

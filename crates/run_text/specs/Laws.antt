@@ -1,6 +1,7 @@
 -- What is written is read back, and what a section's parts are. This project's own.
 use Rattle.std.specs.Prelude.{◌≡◌, ℕ, ◌+◌, ◌<◌, ◌≤◌, ◌^◌, false, List, [], ◌∷◌, ◌++◌, Ok, Some, All, codes, length, map}
 use Rattle.std.specs.List.{concat}
+use Rattle.perp_base.specs.declared.limits.TheConstants.{MOST_ITERATIONS}
 use Rattle.litmus_reader.specs.Front.{words}
 use Rattle.run_judge.specs.Line.{line_of}
 use Rattle.run_judge.specs.declared.event.RunEvent.{RunEvent}
@@ -34,8 +35,8 @@ EventsAreReadBack = (e : RunEvent) → IsOfWidth e → event_of (words (line_of 
 abbrev pub HasNoSection : List ℕ → List ℕ → Type 0
 HasNoSection heading text = All (λ line. is_section_line heading line ≡ false) (lines_of text)
 
--- An input is the litmus part, a section line and the lines of the section. The section line is one line and the first of its
--- heading; it tells the number of iterations, and the first line of the section has the number behind its own.
+-- An input is the litmus part, a section line and the lines of the section. The section line is one line and the first
+-- of its heading; it tells the number of iterations, and the first line of the section has the number after its own.
 pub record IsParted (heading input : List ℕ) (s : Split) : Type 0 where
   pub section : List ℕ
   pub whole : input ≡ s.litmus ++ (section ++ concat s.lines)
@@ -59,7 +60,7 @@ pub record CanLead (litmus : List ℕ) : Type 0 where
   pub ends : EndsLine litmus
   pub plain : HasNoSection (codes "%events") litmus
 
--- the parts of a litmus text and a written run behind it
+-- the parts of a litmus text and a written run after it
 abbrev pub run_parts : List ℕ → ℕ → List RunEvent → Split
 run_parts litmus n events = record {
   litmus = litmus;
@@ -68,12 +69,12 @@ run_parts litmus n events = record {
   lines = map line_of events;
 }
 
--- a written run behind a litmus text is parted from it, and its lines tell its events
+-- a written run after a litmus text is parted from it, and its lines tell its events
 pub record IsReadBack (litmus : List ℕ) (n : ℕ) (events : List RunEvent) : Type 0 where
   pub parts : split_of (codes "%events") (litmus ++ run_text_of n events) ≡ Some (run_parts litmus n events)
   pub tells : (line : ℕ) → events_of line (map line_of events) ≡ Ok events
 
--- law: a run that is written behind a litmus text is read back
+-- law: a run that is written after a litmus text is read back
 abbrev pub RunsAreReadBack : Type 0
 RunsAreReadBack = (litmus : List ℕ) (n : ℕ) (events : List RunEvent)
-    → CanLead litmus → 1 ≤ n → n ≤ 100000 → All IsOfWidth events → IsReadBack litmus n events
+    → CanLead litmus → 1 ≤ n → n ≤ MOST_ITERATIONS → All IsOfWidth events → IsReadBack litmus n events

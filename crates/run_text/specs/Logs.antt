@@ -55,7 +55,8 @@ last_of_few columns last ls = if nat_lt (length ls) (length columns) then Some l
 -- the logs that such lines tell, one for each thread, unless one is wrong or they are too few
 abbrev pub logs_in : List ℕ → ℕ → ℕ → List Numbered → Result (List Values) ℕ
 logs_in columns n last ls =
-    unless_refused (option_or (wrong_line columns n ls) (last_of_few columns last ls)) (filter_map (log_in columns n) ls)
+    unless_refused (option_or (wrong_line columns n ls) (last_of_few columns last ls))
+    (filter_map (log_in columns n) ls)
 
 -- the logs of lines, the first of which has this number
 abbrev pub logs_of : List ℕ → ℕ → ℕ → List (List ℕ) → Result (List Values) ℕ

@@ -6,7 +6,7 @@ ghost use Rattle.run_text.specs.Answered.{IsAnswer};
 ghost use Rattle.run_text.specs.Lines.{lines_of};
 
 use crate::error::SectionError;
-use crate::numbers::{number_in, small_number, thread_of};
+use crate::numbers::{number_up_to, small_number, thread_of};
 use crate::section::Section;
 use crate::words::{has_words, line_len, next_word};
 use run_judge::{RunEvent, RunKind};
@@ -40,14 +40,14 @@ fn valued_kind(verb: &[u8], value: u64) -> Option<RunKind>
     }
 }
 
-/// The kind that a word and the words behind it tell.
+/// The kind that a word and the words after it tell.
 fn kind_of(verb: &[u8], rest: &[u8]) -> Option<RunKind>
     ensures { result ≡ kind_of verb.now (words rest.now) }
 {
     match next_word(rest) {
         None => plain_kind(verb),
         Some(value) => match next_word(value.rest) {
-            None => valued_kind(verb, number_in(u64::MAX, value.word)?),
+            None => valued_kind(verb, number_up_to(u64::MAX, value.word)?),
             Some(_) => None,
         },
     }

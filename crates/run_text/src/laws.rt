@@ -11,7 +11,7 @@ pub fn sections_part_inputs()
     ensures { SectionsPartInputs }
 {}
 
-/// A run that is written behind a litmus text is read back.
+/// A run that is written after a litmus text is read back.
 pub fn runs_are_read_back()
     ensures { RunsAreReadBack }
 {}

@@ -7,10 +7,10 @@
 //! first without its form. Lines are numbered through the whole input, and lines without words are skipped. On lines of
 //! events `P007` is thread 7; a line of logs begins with the plain `P7`.
 //!
-//! The laws of `specs/Laws` say that what is written is read back. `events_are_read_back`: the line of an event, as run_judge writes
-//! it, tells that event. `sections_part_inputs`: an input that has a section is its litmus part, the section line and the
-//! section's lines, put together. `runs_are_read_back`: a run that is written behind a litmus text (`run_text_of`, `specs/Runs`)
-//! is parted from it again, and its lines tell its events.
+//! The laws of `specs/Laws` say that what is written is read back. `events_are_read_back`: the line of an event, as
+//! run_judge writes it, tells that event. `sections_part_inputs`: an input that has a section is its litmus part, the
+//! section line and the section's lines, put together. `runs_are_read_back`: a run that is written after a litmus text
+//! (`run_text_of`, `specs/Runs`) is parted from it again, and its lines tell its events.
 //!
 //! Each byte is looked at a few times at most, and nothing is kept but the answer.
 #![tactic(auto)]

@@ -4,8 +4,9 @@ ghost use Rattle.litmus_reader.specs.Front.{words};
 ghost use Rattle.run_text.specs.Numbers.{large_number};
 ghost use Rattle.run_text.specs.Sections.{IsWithin, iterations_of, seen, split_of, within_iterations};
 
-use crate::numbers::number_in;
+use crate::numbers::number_up_to;
 use crate::words::{line_len, next_word};
+use perp_base::MOST_ITERATIONS;
 
 /// The first section line of an input parts it.
 #[derive(Clone, Copy)]
@@ -14,19 +15,19 @@ pub struct Section<'a> {
     pub litmus: &'a [u8],
     /// The number that the section line tells, 1 to 100,000.
     pub iterations: u32,
-    /// The number of the line behind the section line, from 1 through the whole input.
+    /// The number of the line after the section line, from 1 through the whole input.
     pub line: u32,
-    /// What stands behind the section line.
+    /// What stands after the section line.
     pub lines: &'a [u8],
 }
 
 /// The number of iterations that a word tells: 1 to 100,000.
 fn iterations_in(word: &[u8]) -> Option<u32>
     ensures is { result ≡ within_iterations (large_number word.now) }
-    ensures within { IfSome result (λ n. (1 ≤ n) × (n ≤ 100000)) }
+    ensures within { IfSome result (λ n. (1 ≤ n) × (n ≤ MOST_ITERATIONS)) }
 {
-    let iterations = number_in(u64::MAX, word)?;
-    if 1 <= iterations && iterations <= 100000 {
+    let iterations = number_up_to(u64::MAX, word)?;
+    if 1 <= iterations && iterations <= u64::from(MOST_ITERATIONS) {
         Some(iterations as u32)
     } else {
         None
@@ -36,7 +37,7 @@ fn iterations_in(word: &[u8]) -> Option<u32>
 /// The number of iterations that a section line of this heading tells, if the line is one.
 fn iterations_of(heading: &[u8], line: &[u8]) -> Option<u32>
     ensures is { result ≡ iterations_of heading.now (words line.now) }
-    ensures within { IfSome result (λ n. (1 ≤ n) × (n ≤ 100000)) }
+    ensures within { IfSome result (λ n. (1 ≤ n) × (n ≤ MOST_ITERATIONS)) }
 {
     let first = next_word(line)?;
     let second = next_word(first.rest)?;

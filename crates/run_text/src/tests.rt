@@ -1,4 +1,4 @@
-// Worked sections.
+//! Worked sections.
 ghost use Rattle.std.specs.Prelude.{◌<◌, ◌^◌, length};
 
 use super::*;
@@ -7,7 +7,7 @@ use run_judge::{RunEvent, RunKind};
 use std::alloc::Global;
 use std::test::Fail;
 
-// The lines of six events of store buffering, with blanks and a line without words.
+/// The lines of six events of store buffering, with blanks and a line without words.
 const SIX: &[u8] =
     b"X86 SB\n%events 1\nP0 0 0 push\n\tP0 0  1 read 0\r\n \nP0 0 0 drain\nP1 0 0 push\nP1 000 1 read 1\nP1 0 0 drain";
 
@@ -20,7 +20,7 @@ fn event(thread: u32, place: u32, kind: RunKind) -> RunEvent {
     }
 }
 
-// The events of a text's section, or the line that is refused, or 0 where there is no section.
+/// The events of a text's section, or the line that is refused, or 0 where there is no section.
 fn told(alloc: Global, text: &[u8]) -> Result<Result<Vec<RunEvent>, u32>, Fail>
     requires { length text.now < 2 ^ 31 }
 {
@@ -34,7 +34,7 @@ fn told(alloc: Global, text: &[u8]) -> Result<Result<Vec<RunEvent>, u32>, Fail>
     }
 }
 
-// The line at which the logs of a text are refused, or 0 where there are as many as columns.
+/// The line at which the logs of a text are refused, or 0 where there are as many as columns.
 fn refused(alloc: Global, text: &[u8]) -> Result<u32, Fail>
     requires { length text.now < 2 ^ 31 }
 {
@@ -48,7 +48,7 @@ fn refused(alloc: Global, text: &[u8]) -> Result<u32, Fail>
     }
 }
 
-// What a thread logged, if it did.
+/// What a thread logged, if it did.
 fn value(logs: &Logs, t: usize, n: u32, column: usize) -> Option<u64>
     requires { n < 10 }
 {

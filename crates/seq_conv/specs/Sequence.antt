@@ -1,16 +1,30 @@
--- The stores of a location, and the arithmetic sequences that make their values unique: k*n + a in iteration n, after PerpLE
--- (Melissaris, Markakis, Shaw and Martonosi, MICRO 2020). The numbering by thread and then by place is this project's own.
+-- The stores of a location, and the arithmetic sequences that make their values unique: k*n + a in iteration n, after
+-- PerpLE (Melissaris, Markakis, Shaw and Martonosi, MICRO 2020). The numbering by thread and then by place is this
+-- project's own.
 use Rattle.std.specs.Prelude.{ℕ, ◌+◌, ◌*◌, ◌==◌, ◌&&◌, Bool, Option, List, [], ◌∷◌, ◌++◌, length, if◌then◌else◌, slice_get, unwrap_or}
 use Rattle.std.specs.List.{position}
 use Rattle.std.specs.Option.{option_and_then}
 use Rattle.x86_subset.specs.Instr.{is_store_to, location_of}
 use Rattle.x86_subset.specs.Test.{Code, LitmusTest, body_of}
 use Rattle.x86_subset.specs.declared.instr.Instr.{Instr}
+use Rattle.seq_conv.specs.declared.site.Origin.{Origin as OriginOf}
 use Rattle.seq_conv.specs.declared.site.Site.{Site as SiteOf}
 
 -- where an action stands in the test: its thread and its place in that thread's body
 abbrev pub Site : Type 0
 Site = SiteOf
+
+-- a store in an iteration
+abbrev pub Origin : Type 0
+Origin = OriginOf
+
+-- the store at a site in iteration m
+abbrev pub in_iteration : Site → ℕ → Origin
+in_iteration s m = record { thread = s.thread; place = s.place; iteration = m }
+
+-- the store of an origin
+abbrev pub store_of : Origin → Site
+store_of o = record { thread = o.thread; place = o.place }
 
 abbrev pub same_site : Site → Site → Bool
 same_site a b = (a.thread == b.thread) && (a.place == b.place)

@@ -6,6 +6,7 @@ ghost use Rattle.x86_subset.specs.Test.{LitmusTest, body_of};
 ghost use Rattle.x86_subset.specs.Shape.{IsTest};
 ghost use Rattle.seq_conv.specs.Sequence.{action_at, same_site, stores_in_body, stores_of};
 ghost use Rattle.seq_conv.specs.Numbers.{IsSmall, action_number, numbers_in_body, numbers_in_bodies, owner_among};
+ghost use Rattle.perp_base.specs.declared.limits.TheConstants.{MOST_ITERATIONS};
 
 use crate::number::Number;
 use crate::site::{Origin, Site};
@@ -27,7 +28,10 @@ impl Model for Sequences {
 
     ghost Value = { Table };
 
-    ghost view = { λ s. record { rows = map (λ row. row.items) s.rows.items; stores = map (λ row. row.items) s.stores.items } };
+    ghost view = { λ s. record {
+      rows = map (λ row. row.items) s.rows.items;
+      stores = map (λ row. row.items) s.stores.items;
+    } };
 
     ghost invariant = { λ s. All (λ row. All IsSmall row.items) s.rows.items };
 }
@@ -74,7 +78,8 @@ fn stores_of(alloc: Global, test: &Test, threads: usize, loc: u32) -> Result<Vec
 
 /// The stores of each location.
 fn all_stores(alloc: Global, test: &Test) -> Result<Vec<Vec<Site>>, NoMemory>
-    ensures { IfOk result (λ v. map (λ row. row.items) v.items ≡ map (stores_of test.now) (range_with_len 0 (length test.now.locations))) }
+    ensures { IfOk result (λ v. map (λ row. row.items) v.items
+        ≡ map (stores_of test.now) (range_with_len 0 (length test.now.locations))) }
 {
     let threads = test.threads();
     let mut all = Vec::new(alloc);
@@ -110,7 +115,8 @@ fn action_number(test: &Test, action: Instr, site: Site, stores: &[Vec<Site>]) -
     requires test { IsTest test.now }
     requires located { IfSome (location_of action) (λ x. x < length test.now.locations) }
     requires site { action_at test.now site ≡ Some action }
-    requires stores { map (λ row. row.items) stores.now ≡ map (stores_of test.now) (range_with_len 0 (length test.now.locations)) }
+    requires stores { map (λ row. row.items) stores.now
+        ≡ map (stores_of test.now) (range_with_len 0 (length test.now.locations)) }
     ensures is { result ≡ action_number test.now site action }
     ensures small { IsSmall result }
 {
@@ -130,7 +136,8 @@ fn row_of(
 ) -> Result<Vec<Number>, NoMemory>
     requires test { IsTest test.now }
     requires thread { thread < length test.now.bodies }
-    requires stores { map (λ row. row.items) stores.now ≡ map (stores_of test.now) (range_with_len 0 (length test.now.locations)) }
+    requires stores { map (λ row. row.items) stores.now
+        ≡ map (stores_of test.now) (range_with_len 0 (length test.now.locations)) }
     ensures is { IfOk result (λ v. v.items ≡ numbers_in_body test.now thread 0 (body_of test.now thread)) }
     ensures small { IfOk result (λ v. All IsSmall v.items) }
 {
@@ -148,7 +155,8 @@ fn row_of(
 
 /// The numbers of all actions, by thread and place.
 fn all_rows(alloc: Global, test: &Test, stores: &[Vec<Site>]) -> Result<Vec<Vec<Number>>, NoMemory>
-    requires stores { map (λ row. row.items) stores.now ≡ map (stores_of test.now) (range_with_len 0 (length test.now.locations)) }
+    requires stores { map (λ row. row.items) stores.now
+        ≡ map (stores_of test.now) (range_with_len 0 (length test.now.locations)) }
     ensures is { IfOk result (λ v. map (λ row. row.items) v.items ≡ numbers_in_bodies test.now 0 test.now.bodies) }
     ensures small { IfOk result (λ v. All (λ row. All IsSmall row.items) v.items) }
 {
@@ -179,6 +187,7 @@ impl Sequences {
     ghost use Rattle.std.specs.Prelude.{◌≡◌, ◌<◌, length, IfOk};
     ghost use Rattle.x86_subset.specs.Test.{LitmusTest};
     ghost use Rattle.seq_conv.specs.Numbers.{AreOf, IsOwner, rank_at, row_of, stores_at, value_at};
+    ghost use Rattle.perp_base.specs.declared.limits.TheConstants.{MOST_ITERATIONS};
 
     /// The sequences of a test: each location's stores and exchanges are ranked from 1, by thread and then by place.
     pub fn of(alloc: Global, test: &Test) -> Result<Sequences, NoMemory>
@@ -219,7 +228,7 @@ impl Sequences {
     pub fn value(&self, thread: usize, place: usize, n: u32) -> u64
         requires thread { thread < length self.now.rows }
         requires place { place < length (row_of self.now thread) }
-        requires n { n < 100000 }
+        requires n { n < MOST_ITERATIONS }
         ensures { result ≡ value_at self.now thread place n }
     {
         let row = &self.rows[thread];
@@ -227,8 +236,8 @@ impl Sequences {
         number.k * u64::from(n) + number.a
     }
 
-    /// Whose value a number is at a location: the store or exchange that writes it, and the iteration in which it does. Nobody
-    /// writes 0, and nobody writes to a location without stores.
+    /// Whose value a number is at a location: the store or exchange that writes it, and the iteration in which it does.
+    /// Nobody writes 0, and nobody writes to a location without stores.
     pub fn owner(&self, loc: u32, value: u64) -> Option<Origin>
         requires { loc < length self.now.stores }
         ensures is { result ≡ owner_among (stores_at self.now loc) value }

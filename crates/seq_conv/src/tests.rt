@@ -1,3 +1,4 @@
+//! The sequences of a worked test.
 ghost use Rattle.std.specs.Prelude.{IfOk};
 ghost use Rattle.x86_subset.specs.Shape.{IsLocated};
 
@@ -20,7 +21,7 @@ fn body(alloc: Global) -> Result<Body, NoMemory>
     Ok(body)
 }
 
-// `MOV [x],$1`, `MOV [x],$2`, `MOV EAX,[x]` in the one thread.
+/// `MOV [x],$1`, `MOV [x],$2`, `MOV EAX,[x]` in the one thread.
 fn two_stores(alloc: Global) -> Result<Test, Fail> {
     let atoms = vec![in alloc;
         Atom {

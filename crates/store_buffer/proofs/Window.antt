@@ -16,19 +16,26 @@ wraps_once n j below = elim (cases_lt j n) [
 
 module _ {A : Type 0} (n oldest len : ℕ) (slots : List A) (there : oldest < n) (fits : len ≤ n) (all : length slots ≡ n) where
   length-window : length (window oldest len slots) ≡ len
-  length-window = length-take-le len _ (simp (length-append, length-drop) (omega (arith, length-take-le oldest slots (omega arith))))
+  length-window =
+      length-take-le len _ (simp (length-append, length-drop) (omega (
+        arith,
+        length-take-le oldest slots (omega arith),
+      )))
 
   get_or-window : (i : ℕ) (d : A) → i < len → get_or (window oldest len slots) i d ≡ get_or slots ((oldest + i) % n) d
   get_or-window i d within =
       let tail = length-drop oldest slots in
       get_or-take len _ i d within ∙ elim (wraps_once n (oldest + i) (omega arith)) [
-        | inl straight ↦ get_or_append_left _ _ d i (omega arith) ∙ get_or-drop oldest slots i d ∙ ap (λ j. get_or slots j d) (omega arith)
-        | inr wrapped ↦ get_or-append_right _ _ (n - oldest) i d (omega arith) (omega arith) ∙ get_or-take oldest slots _ d (omega arith) ∙ ap (λ j. get_or slots j d) (omega arith)
+        | inl straight ↦ get_or_append_left _ _ d i (omega arith) ∙ get_or-drop oldest slots i d
+            ∙ ap (λ j. get_or slots j d) (omega arith)
+        | inr wrapped ↦ get_or-append_right _ _ (n - oldest) i d (omega arith) (omega arith)
+            ∙ get_or-take oldest slots _ d (omega arith) ∙ ap (λ j. get_or slots j d) (omega arith)
       ]
 
 module _ {A : Type 0} (n oldest len : ℕ) (slots : List A) (there : oldest < n) (fits : len ≤ n) (all : length slots ≡ n) where
-  -- an item that is written behind the last one comes to their end
-  window-push : (x : A) → len < n → window oldest (len + 1) (set slots ((oldest + len) % n) x) ≡ window oldest len slots ++ x ∷ []
+  -- an item that is written after the last one comes to their end
+  window-push : (x : A) → len < n → window oldest (len + 1) (set slots ((oldest + len) % n) x) ≡ window oldest len slots
+      ++ x ∷ []
   window-push x room =
       let after = set slots ((oldest + len) % n) x in
       let all_after = length-set slots ((oldest + len) % n) x ∙ all in
@@ -43,7 +50,7 @@ module _ {A : Type 0} (n oldest len : ℕ) (slots : List A) (there : oldest < n)
         get_or-window n oldest (len + 1) after there (omega arith) all_after i d,
       ))
 
-  -- the items from the next slot on are those behind the oldest
+  -- the items from the next slot on are those after the oldest
   window-drop : 0 < len → window ((oldest + 1) % n) (len - 1) slots ≡ drop 1 (window oldest len slots)
   window-drop some =
       let next_there : (oldest + 1) % n < n = grind (arith, wraps_once n (oldest + 1) (omega arith)) in
@@ -63,8 +70,12 @@ module _ {A : Type 0} (capacity oldest len : ℕ) (slots : List A) (ring : IsRin
   pub ring_length : length (window oldest len slots) ≡ len
   ring_length = length-window 16 oldest len slots ring.oldest_there (omega arith) ring.all
 
-  pub ring_push : (x : A) → len < capacity → window oldest (len + 1) (set slots ((oldest + len) % 16) x) ≡ window oldest len slots ++ x ∷ []
+  pub ring_push : (x : A) → len < capacity → window oldest (len + 1) (set slots ((oldest + len) % 16) x)
+      ≡ window oldest len slots ++ x ∷ []
   ring_push x room = window-push 16 oldest len slots ring.oldest_there (omega arith) ring.all x (omega arith)
 
-  pub ring_drop : (x : A) → slice_get (window oldest len slots) 0 ≡ Some x → window ((oldest + 1) % 16) (len - 1) slots ≡ drop 1 (window oldest len slots)
-  ring_drop x first = window-drop 16 oldest len slots ring.oldest_there (omega arith) ring.all (omega (arith, ring_length, slice_get_within (window oldest len slots) 0 x first))
+  pub ring_drop : (x : A) → slice_get (window oldest len slots) 0 ≡ Some x
+      → window ((oldest + 1) % 16) (len - 1) slots ≡ drop 1 (window oldest len slots)
+  ring_drop x first =
+      window-drop 16 oldest len slots ring.oldest_there (omega arith) ring.all
+      (omega (arith, ring_length, slice_get_within (window oldest len slots) 0 x first))

@@ -3,20 +3,18 @@ ghost use Rattle.std.specs.Prelude.{◌≡◌, ℕ, ◌+◌, ◌<◌, ◌≤◌,
 ghost use Rattle.store_buffer.specs.Contents.{newest_value};
 
 use crate::entry::Entry;
+use perp_base::MOST_WRITES;
 use std::marker::Model;
 
-/// How many writes a buffer can hold at most.
-const MOST_ENTRIES: usize = 16;
-
-/// The writes of one thread that memory has not seen yet, oldest first; at most as many as its capacity, which is 1 to 16. They stand in a
-/// ring of slots, so that no write moves when the oldest one leaves.
+/// The writes of one thread that memory has not seen yet, oldest first; at most as many as its capacity, which is 1 to
+/// 16. They stand in a ring of slots, so that no write moves when the oldest one leaves.
 #[derive(Drop)]
 pub struct Buffer {
     capacity: u32,
-    // The slot of the oldest write, and how many writes stand from there on; behind the last slot comes the first.
+    /// The slot of the oldest write, and how many writes stand from there on; after the last slot comes the first.
     oldest: usize,
     len: usize,
-    slots: [Entry; MOST_ENTRIES],
+    slots: [Entry; MOST_WRITES],
 }
 
 impl Model for Buffer {
@@ -35,14 +33,14 @@ impl Buffer {
     /// An empty buffer for so many writes.
     pub fn new(capacity: u32) -> Buffer
         requires low { 1 ≤ capacity }
-        requires high { capacity ≤ 16 }
+        requires high { capacity ≤ MOST_WRITES }
         ensures { result ≡ record { capacity = capacity; entries = [] } }
     {
         Buffer {
             capacity,
             oldest: 0,
             len: 0,
-            slots: [Entry::default(); MOST_ENTRIES],
+            slots: [Entry::default(); MOST_WRITES],
         }
     }
 
@@ -55,7 +53,7 @@ impl Buffer {
         ensures given_back { IfErr result (λ e. e ≡ entry) }
     {
         if self.len < self.capacity as usize {
-            self.slots[(self.oldest + self.len) % MOST_ENTRIES] = entry;
+            self.slots[(self.oldest + self.len) % MOST_WRITES] = entry;
             self.len += 1;
             Ok(())
         } else {
@@ -68,7 +66,7 @@ impl Buffer {
         requires there { i < length self.now.entries }
         ensures { slice_get self.now.entries i ≡ Some result }
     {
-        self.slots[(self.oldest + i) % MOST_ENTRIES]
+        self.slots[(self.oldest + i) % MOST_WRITES]
     }
 
     /// The oldest write; None where the buffer is empty.
@@ -88,7 +86,7 @@ impl Buffer {
         ensures rest { self.new ≡ record self.old { entries = drop 1 self.old.entries } }
     {
         let oldest = self.oldest()?;
-        self.oldest = (self.oldest + 1) % MOST_ENTRIES;
+        self.oldest = (self.oldest + 1) % MOST_WRITES;
         self.len -= 1;
         Some(oldest)
     }
@@ -110,7 +108,7 @@ impl Buffer {
     pub fn capacity(&self) -> u32
         ensures value { result ≡ self.now.capacity }
         ensures low { 1 ≤ result }
-        ensures high { result ≤ 16 }
+        ensures high { result ≤ MOST_WRITES }
     {
         self.capacity
     }
@@ -119,7 +117,7 @@ impl Buffer {
     pub fn len(&self) -> usize
         ensures value { result ≡ length self.now.entries }
         ensures fits { result ≤ self.now.capacity }
-        ensures few { self.now.capacity ≤ 16 }
+        ensures few { self.now.capacity ≤ MOST_WRITES }
     {
         self.len
     }

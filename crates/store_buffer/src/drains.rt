@@ -2,14 +2,13 @@
 ghost use Rattle.std.specs.Prelude.{◌≡◌, ℕ, ◌+◌, ◌<◌, ◌≤◌, ◌^◌, ◌%◌};
 ghost use Rattle.store_buffer.specs.Generator.{asks_drain};
 
+use perp_base::WHOLE_RATE;
 use rand_core::{Rng, SeedableRng};
 use rand_xoshiro::Xoshiro256PlusPlus;
 use std::marker::Model;
 
-/// The rate at which every choice asks for a drain.
-const WHOLE_RATE: u64 = 256;
-
-/// The seeded choice, before each action of a thread, of whether a write drains. Its rate is in 256ths: at 0 it never asks, at 256 always.
+/// The seeded choice, before each action of a thread, of whether a write drains. Its rate is in 256ths: at 0 it never
+/// asks, at 256 always.
 #[derive(Drop)]
 pub struct Drains {
     seed: u64,
@@ -31,9 +30,10 @@ impl Model for Drains {
 }
 
 impl Drains {
-    /// The choices of a thread, from the first. The generator is seeded by the sum of seed and thread, which wraps at 64 bits.
+    /// The choices of a thread, from the first. The generator is seeded by the sum of seed and thread, which wraps at
+    /// 64 bits.
     pub fn new(seed: u64, thread: u32, rate: u32) -> Drains
-        requires { rate ≤ 256 }
+        requires { rate ≤ WHOLE_RATE }
         ensures { result ≡ record { seed = seed; thread = thread; rate = rate; taken = 0 } }
     {
         Drains {

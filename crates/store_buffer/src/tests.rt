@@ -1,4 +1,4 @@
-// A buffer of two writes, and the words of one seed.
+//! A buffer of two writes, and the words of one seed.
 use super::*;
 use rand_core::{Rng, SeedableRng};
 use rand_xoshiro::Xoshiro256PlusPlus;
@@ -8,7 +8,7 @@ const X: u32 = 0;
 
 const Y: u32 = 1;
 
-// A write of the first iteration.
+/// A write of the first iteration.
 fn write(loc: u32, value: u64, place: u32) -> Entry {
     Entry {
         loc,

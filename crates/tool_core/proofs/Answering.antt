@@ -22,17 +22,22 @@ use Rattle.tool_core.proofs.Dues.{due_for_text, test_is_due, unread_is_due}
 
 -- ---- a litmus part and its test
 
-pub unread_due : (command : Command) (input : List ℕ) (parts : Split) (status : Status) → parts_of command input ≡ Some parts → length parts.litmus ≤ 65536
-    → (status ≡ Memory) ⊎ IsUnread parts.litmus status → (Core status ≡ Core Memory) ⊎ IsDue command input (Some (Core status))
-unread_due command input parts status e short (inl memory) = inl (subst (λ (s : Status). Core s ≡ Core Memory) (sym memory) refl)
-unread_due command input parts status e short (inr unread) = inr (due_for_text command input parts (Some (Core status)) e short (unread_is_due command parts status unread))
+pub unread_due : (command : Command) (input : List ℕ) (parts : Split) (status : Status)
+    → parts_of command input ≡ Some parts → length parts.litmus ≤ 65536
+    → (status ≡ Memory) ⊎ IsUnread parts.litmus status
+    → (Core status ≡ Core Memory) ⊎ IsDue command input (Some (Core status))
+unread_due command input parts status e short (inl memory) =
+    inl (subst (λ (s : Status). Core s ≡ Core Memory) (sym memory) refl)
+unread_due command input parts status e short (inr unread) =
+    inr (due_for_text command input parts (Some (Core status)) e short (unread_is_due command parts status unread))
 
 -- what the work on a test and a section promises
 pub record Works (command : Command) (test : LitmusTest) (parts : Split) (done : Closed) (text : Result (String Global) ToolStatus) : Type 0 where
   pub none_due : IfOk text (λ _. due_for_test command test parts ≡ None)
   pub right : IfOk text (λ t. IsText command test parts done (string_bytes t))
   pub err : IfErr text (λ s. (s ≡ Core Memory) ⊎ (due_for_test command test parts ≡ Some s))
-  pub still : IfErr text (λ s. IsStill done ⊎ ((s ≡ Core Memory) × (due_for_test command test parts ≡ None) × RanFor command test done))
+  pub still : IfErr text (λ s. IsStill done ⊎ ((s ≡ Core Memory) × (due_for_test command test parts ≡ None)
+      × RanFor command test done))
 
 -- an input with these parts, which read as this test
 pub record Has (command : Command) (input : List ℕ) (parts : Split) (test : LitmusTest) : Type 0 where
@@ -40,34 +45,62 @@ pub record Has (command : Command) (input : List ℕ) (parts : Split) (test : Li
   pub short : length parts.litmus ≤ 65536
   pub reading : Reads parts.litmus (Accepted test)
 
-accepts : (command : Command) (input : List ℕ) (parts : Split) (test : LitmusTest) → Has command input parts test → due_for_test command test parts ≡ None
+accepts : (command : Command) (input : List ℕ) (parts : Split) (test : LitmusTest) → Has command input parts test
+    → due_for_test command test parts ≡ None
     → Accepts command input parts test
-accepts command input parts test has none = record { parts_are = has.parts_are; short = has.short; reading = has.reading; none_due = none }
+accepts command input parts test has none = record {
+  parts_are = has.parts_are;
+  short = has.short;
+  reading = has.reading;
+  none_due = none;
+}
 
-pub answered : (command : Command) (input : List ℕ) (parts : Split) (test : LitmusTest) (done : Closed) (text : Result (String Global) ToolStatus)
-    → Has command input parts test → Works command test parts done text → IfOk text (λ t. IsAnswer command input done (string_bytes t))
+pub answered : (command : Command) (input : List ℕ) (parts : Split) (test : LitmusTest) (done : Closed)
+    (text : Result (String Global) ToolStatus)
+    → Has command input parts test → Works command test parts done text
+    → IfOk text (λ t. IsAnswer command input done (string_bytes t))
 answered command input parts test done (Ok t) has works =
-    record { parts = parts; test = test; accepts = accepts command input parts test has works.none_due; right = works.right }
+    record {
+      parts = parts;
+      test = test;
+      accepts = accepts command input parts test has works.none_due;
+      right = works.right;
+    }
 answered command input parts test done (Err s) has works = tt
 
-due_by : (command : Command) (input : List ℕ) (parts : Split) (test : LitmusTest) (s : ToolStatus) → Has command input parts test
+due_by : (command : Command) (input : List ℕ) (parts : Split) (test : LitmusTest) (s : ToolStatus)
+    → Has command input parts test
     → (s ≡ Core Memory) ⊎ (due_for_test command test parts ≡ Some s) → (s ≡ Core Memory) ⊎ IsDue command input (Some s)
 due_by command input parts test s has (inl memory) = inl memory
 due_by command input parts test s has (inr due) =
-    inr (due_for_text command input parts (Some s) has.parts_are has.short (test_is_due command parts test (Some s) has.reading due))
+    inr (due_for_text command input parts (Some s) has.parts_are has.short
+    (test_is_due command parts test (Some s) has.reading due))
 
-pub refused : (command : Command) (input : List ℕ) (parts : Split) (test : LitmusTest) (done : Closed) (text : Result (String Global) ToolStatus)
-    → Has command input parts test → Works command test parts done text → IfErr text (λ s. (s ≡ Core Memory) ⊎ IsDue command input (Some s))
+pub refused : (command : Command) (input : List ℕ) (parts : Split) (test : LitmusTest) (done : Closed)
+    (text : Result (String Global) ToolStatus)
+    → Has command input parts test → Works command test parts done text
+    → IfErr text (λ s. (s ≡ Core Memory) ⊎ IsDue command input (Some s))
 refused command input parts test done (Ok t) has works = tt
 refused command input parts test done (Err s) has works = due_by command input parts test s has works.err
 
-still_or_ran : (command : Command) (input : List ℕ) (parts : Split) (test : LitmusTest) (done : Closed) (s : ToolStatus) → Has command input parts test
-    → IsStill done ⊎ ((s ≡ Core Memory) × (due_for_test command test parts ≡ None) × RanFor command test done) → IsStillOrRan command input done s
+still_or_ran : (command : Command) (input : List ℕ) (parts : Split) (test : LitmusTest) (done : Closed) (s : ToolStatus)
+    → Has command input parts test
+    → IsStill done ⊎ ((s ≡ Core Memory) × (due_for_test command test parts ≡ None) × RanFor command test done)
+    → IsStillOrRan command input done s
 still_or_ran command input parts test done s has (inl still) = inl still
 still_or_ran command input parts test done s has (inr ran) =
-    inr (ran.0, record { parts = parts; test = test; accepts = accepts command input parts test has ran.1; ran = ran.2 })
+    inr (
+      ran.0,
+      record {
+        parts = parts;
+        test = test;
+        accepts = accepts command input parts test has ran.1;
+        ran = ran.2;
+      },
+    )
 
-pub left : (command : Command) (input : List ℕ) (parts : Split) (test : LitmusTest) (done : Closed) (text : Result (String Global) ToolStatus)
+pub left : (command : Command) (input : List ℕ) (parts : Split) (test : LitmusTest) (done : Closed)
+    (text : Result (String Global) ToolStatus)
     → Has command input parts test → Works command test parts done text → IfErr text (IsStillOrRan command input done)
 left command input parts test done (Ok t) has works = tt
 left command input parts test done (Err s) has works = still_or_ran command input parts test done s has works.still
@@ -86,27 +119,39 @@ pub record AnswersInput (command : Command) (input : List ℕ) (done : Closed) (
   pub err : IfErr text (λ s. (s ≡ Core Memory) ⊎ IsDue command input (Some s))
   pub still : IfErr text (IsStillOrRan command input done)
 
-pub answers_of : (words : List (List ℕ)) (old new : View) (command : Command) (input : List ℕ) (done : Closed) (text : Result (String Global) ToolStatus)
-    → Took words old new command input → AnswersInput command input done text → IfOk text (λ t. Answers words old new done (string_bytes t))
-answers_of words old new command input done (Ok t) took a = record { command = command; input = input; took = took; answer = a.ok }
+pub answers_of : (words : List (List ℕ)) (old new : View) (command : Command) (input : List ℕ) (done : Closed)
+    (text : Result (String Global) ToolStatus)
+    → Took words old new command input → AnswersInput command input done text
+    → IfOk text (λ t. Answers words old new done (string_bytes t))
+answers_of words old new command input done (Ok t) took a = record {
+  command = command;
+  input = input;
+  took = took;
+  answer = a.ok;
+}
 answers_of words old new command input done (Err s) took a = tt
 
-refused_by : (words : List (List ℕ)) (old new : View) (command : Command) (input : List ℕ) (s : ToolStatus) → Took words old new command input
+refused_by : (words : List (List ℕ)) (old new : View) (command : Command) (input : List ℕ) (s : ToolStatus)
+    → Took words old new command input
     → (s ≡ Core Memory) ⊎ IsDue command input (Some s) → Refused words old new s
 refused_by words old new command input s took (inl memory) = subst (Refused words old new) (sym memory) no_memory
 refused_by words old new command input s took (inr due) = no_input s command input took due
 
-pub refused_of : (words : List (List ℕ)) (old new : View) (command : Command) (input : List ℕ) (done : Closed) (text : Result (String Global) ToolStatus)
+pub refused_of : (words : List (List ℕ)) (old new : View) (command : Command) (input : List ℕ) (done : Closed)
+    (text : Result (String Global) ToolStatus)
     → Took words old new command input → AnswersInput command input done text → IfErr text (Refused words old new)
 refused_of words old new command input done (Ok t) took a = tt
 refused_of words old new command input done (Err s) took a = refused_by words old new command input s took a.err
 
-leaves_by : (words : List (List ℕ)) (old new : View) (command : Command) (input : List ℕ) (done : Closed) (s : ToolStatus) → Took words old new command input
+leaves_by : (words : List (List ℕ)) (old new : View) (command : Command) (input : List ℕ) (done : Closed)
+    (s : ToolStatus) → Took words old new command input
     → IsStillOrRan command input done s → Leaves words old new done s
 leaves_by words old new command input done s took (inl still) = inl still
-leaves_by words old new command input done s took (inr ran) = inr (ran.0, record { command = command; input = input; took = took; ran = ran.1 })
+leaves_by words old new command input done s took (inr ran) =
+    inr (ran.0, record { command = command; input = input; took = took; ran = ran.1 })
 
-pub leaves_of : (words : List (List ℕ)) (old new : View) (command : Command) (input : List ℕ) (done : Closed) (text : Result (String Global) ToolStatus)
+pub leaves_of : (words : List (List ℕ)) (old new : View) (command : Command) (input : List ℕ) (done : Closed)
+    (text : Result (String Global) ToolStatus)
     → Took words old new command input → AnswersInput command input done text → IfErr text (Leaves words old new done)
 leaves_of words old new command input done (Ok t) took a = tt
 leaves_of words old new command input done (Err s) took a = leaves_by words old new command input done s took a.still

@@ -6,7 +6,7 @@ use Rattle.x86_subset.specs.declared.test.Shape.{Shape}
 use Rattle.x86_subset.specs.declared.test.Shape.TheVariants as shapes
 use Rattle.litmus_reader.specs.Answer.{Answer, Accepted, Refused as Unread, Over as TooLarge}
 use Rattle.litmus_reader.specs.Reading.{Reads}
-use Rattle.litmus_reader.proofs.ReadingLaws.{one_reading}
+use Rattle.litmus_reader.proofs.ReadingLaws.{same_reading}
 use Rattle.profile_check.specs.Profile.{Profile, inside, outside, profile_of}
 use Rattle.report_text.specs.declared.status.Over.{Over}
 use Rattle.report_text.specs.declared.status.Over.TheVariants.{Input, Threads, Locations, Instructions, Atoms, Frames}
@@ -23,9 +23,10 @@ use Rattle.tool_core.specs.declared.status.ToolStatus.TheVariants.{Core, NoSecti
 
 -- ---- one refusal
 
-one_due_text : (command : Command) (parts : Split) (a b : Option ToolStatus) → IsDueForText command parts a → IsDueForText command parts b → a ≡ b
+one_due_text : (command : Command) (parts : Split) (a b : Option ToolStatus) → IsDueForText command parts a
+    → IsDueForText command parts b → a ≡ b
 one_due_text command parts a b p q =
-    sym p.is ∙ ap (due_for_reading command parts) (sym ((one_reading parts.litmus).1 p.answer p.reads) ∙ (one_reading parts.litmus).1 q.answer q.reads) ∙ q.is
+    sym p.is ∙ ap (due_for_reading command parts) (same_reading parts.litmus p.answer q.answer p.reads q.reads) ∙ q.is
 
 one_due_by : (command : Command) (parts : Split) (long : Bool) (a b : Option ToolStatus)
     → MatchBool long (a ≡ Some (Core (Limit Input))) (IsDueForText command parts a)
@@ -33,11 +34,13 @@ one_due_by : (command : Command) (parts : Split) (long : Bool) (a b : Option Too
 one_due_by command parts true a b p q = p ∙ sym q
 one_due_by command parts false a b p q = one_due_text command parts a b p q
 
-one_due_parts : (command : Command) (parts : Option Split) (a b : Option ToolStatus) → IsDueForParts command parts a → IsDueForParts command parts b → a ≡ b
+one_due_parts : (command : Command) (parts : Option Split) (a b : Option ToolStatus) → IsDueForParts command parts a
+    → IsDueForParts command parts b → a ≡ b
 one_due_parts command None a b p q = p ∙ sym q
 one_due_parts command (Some parts) a b p q = one_due_by command parts (nat_lt 65536 (length parts.litmus)) a b p q
 
-pub one_due : (command : Command) (input : List ℕ) (a b : Option ToolStatus) → IsDue command input a → IsDue command input b → a ≡ b
+pub one_due : (command : Command) (input : List ℕ) (a b : Option ToolStatus) → IsDue command input a
+    → IsDue command input b → a ≡ b
 one_due command input a b p q = one_due_parts command (parts_of command input) a b p q
 
 -- ---- the statuses of an input that is refused, by the command
@@ -75,7 +78,8 @@ Gives command due = (s : ToolStatus) → due ≡ Some s → IsOfInput command s
 of_none : (command : Command) → Gives command None
 of_none command s e = absurd (cc)
 
-of_first : (command : Command) (a b : Option ToolStatus) → Gives command a → Gives command b → Gives command (first_due a b)
+of_first : (command : Command) (a b : Option ToolStatus) → Gives command a → Gives command b
+    → Gives command (first_due a b)
 of_first command None b p q = q
 of_first command (Some t) b p q = p
 
@@ -117,7 +121,8 @@ of_shape shapes.Locations = tt
 of_shape shapes.Instrs = tt
 of_shape shapes.Atoms = tt
 
-of_reading : (command : Command) (parts : Split) (answer : Answer) → Gives command (due_for_reading command parts answer)
+of_reading : (command : Command) (parts : Split) (answer : Answer)
+    → Gives command (due_for_reading command parts answer)
 of_reading command parts (Unread refusal) = λ s e. some_of command (Core (NotLitmus _ refusal.line)) s e tt
 of_reading command parts (TooLarge limit) = λ s e. some_of command (Core (Limit _)) s e (of_shape limit)
 of_reading command parts (Accepted test) = of_test command test parts
@@ -127,17 +132,21 @@ of_parts_by : (command : Command) (parts : Split) (long : Bool) (s : ToolStatus)
 of_parts_by command parts true s due = some_of command (Core (Limit Input)) s (sym due) tt
 of_parts_by command parts false s due = of_reading command parts due.answer s due.is
 
-of_parts : (command : Command) (parts : Option Split) (s : ToolStatus) → IsDueForParts command parts (Some s) → IsOfInput command s
+of_parts : (command : Command) (parts : Option Split) (s : ToolStatus) → IsDueForParts command parts (Some s)
+    → IsOfInput command s
 of_parts command None s due = some_of command NoSection s (sym due) tt
 of_parts command (Some parts) s due = of_parts_by command parts (nat_lt 65536 (length parts.litmus)) s due
 
-pub of_input : (command : Command) (input : List ℕ) (s : ToolStatus) → IsDue command input (Some s) → IsOfInput command s
+pub of_input : (command : Command) (input : List ℕ) (s : ToolStatus) → IsDue command input (Some s)
+    → IsOfInput command s
 of_input command input s due = of_parts command (parts_of command input) s due
 
 -- ---- what is due for the parts of an input is due for the input
 
-pub due_without_section : (command : Command) (input : List ℕ) → parts_of command input ≡ None → IsDue command input (Some NoSection)
-due_without_section command input e = subst (λ (p : Option Split). IsDueForParts command p (Some NoSection)) (sym e) refl
+pub due_without_section : (command : Command) (input : List ℕ) → parts_of command input ≡ None
+    → IsDue command input (Some NoSection)
+due_without_section command input e =
+    subst (λ (p : Option Split). IsDueForParts command p (Some NoSection)) (sym e) refl
 
 long_is : (n : ℕ) → 65536 < n → nat_lt 65536 n ≡ true
 long_is n h = grind (arith)
@@ -145,26 +154,37 @@ long_is n h = grind (arith)
 short_is : (n : ℕ) → n ≤ 65536 → nat_lt 65536 n ≡ false
 short_is n h = grind (arith)
 
-pub due_for_long : (command : Command) (input : List ℕ) (parts : Split) → parts_of command input ≡ Some parts → 65536 < length parts.litmus
+pub due_for_long : (command : Command) (input : List ℕ) (parts : Split) → parts_of command input ≡ Some parts
+    → 65536 < length parts.litmus
     → IsDue command input (Some (Core (Limit Input)))
 due_for_long command input parts e long =
-    subst (λ (p : Option Split). IsDueForParts command p (Some (Core (Limit Input)))) (sym e) (rw (long_is (length parts.litmus) long) refl)
+    subst (λ (p : Option Split). IsDueForParts command p (Some (Core (Limit Input)))) (sym e)
+    (rw (long_is (length parts.litmus) long) refl)
 
-pub due_for_text : (command : Command) (input : List ℕ) (parts : Split) (due : Option ToolStatus) → parts_of command input ≡ Some parts → length parts.litmus ≤ 65536
+pub due_for_text : (command : Command) (input : List ℕ) (parts : Split) (due : Option ToolStatus)
+    → parts_of command input ≡ Some parts → length parts.litmus ≤ 65536
     → IsDueForText command parts due → IsDue command input due
 due_for_text command input parts due e short is =
     subst (λ (p : Option Split). IsDueForParts command p due) (sym e)
-    (subst (λ (long : Bool). MatchBool long (due ≡ Some (Core (Limit Input))) (IsDueForText command parts due)) (sym (short_is (length parts.litmus) short)) is)
+    (subst (λ (long : Bool). MatchBool long (due ≡ Some (Core (Limit Input))) (IsDueForText command parts due))
+    (sym (short_is (length parts.litmus) short)) is)
 
-due_of_form : (command : Command) (parts : Split) (answer : Answer) (status : Status) → due_for_form answer ≡ Some status → due_for_reading command parts answer ≡ Some (Core status)
+due_of_form : (command : Command) (parts : Split) (answer : Answer) (status : Status)
+    → due_for_form answer ≡ Some status → due_for_reading command parts answer ≡ Some (Core status)
 due_of_form command parts (Unread refusal) status e = ap (option_map Core) e
 due_of_form command parts (TooLarge limit) status e = ap (option_map Core) e
 due_of_form command parts (Accepted test) status e = absurd (cc)
 
-pub unread_is_due : (command : Command) (parts : Split) (status : Status) → IsUnread parts.litmus status → IsDueForText command parts (Some (Core status))
+pub unread_is_due : (command : Command) (parts : Split) (status : Status) → IsUnread parts.litmus status
+    → IsDueForText command parts (Some (Core status))
 unread_is_due command parts status unread =
-    record { answer = unread.answer; reads = unread.reads; is = due_of_form command parts unread.answer status unread.is }
+    record {
+      answer = unread.answer;
+      reads = unread.reads;
+      is = due_of_form command parts unread.answer status unread.is;
+    }
 
-pub test_is_due : (command : Command) (parts : Split) (test : LitmusTest) (due : Option ToolStatus) → Reads parts.litmus (Accepted test)
+pub test_is_due : (command : Command) (parts : Split) (test : LitmusTest) (due : Option ToolStatus)
+    → Reads parts.litmus (Accepted test)
     → due_for_test command test parts ≡ due → IsDueForText command parts due
 test_is_due command parts test due reads e = record { answer = Accepted test; reads = reads; is = e }

@@ -1,11 +1,11 @@
--- A legal run that is written behind a litmus text is called legal.
+-- A legal run that is written after a litmus text is called legal.
 use Rattle.std.proofs.Common.{◌≡◌, ℕ, List, ◌++◌, None, Some, Ok, codes, length, map, sym, ap, ◌∙◌, subst}
 use Rattle.x86_subset.specs.Shape.{limit_of}
 use Rattle.x86_subset.specs.Test.{LitmusTest}
-use Rattle.seq_conv.specs.Run.{IsRunOf}
+use Rattle.tso_machine.specs.Run.{IsRunOf}
 use Rattle.litmus_reader.specs.Answer.{Accepted}
 use Rattle.litmus_reader.specs.Reading.{Reads, accepted}
-use Rattle.litmus_reader.proofs.ReadingLaws.{one_reading}
+use Rattle.litmus_reader.proofs.ReadingLaws.{same_test}
 use Rattle.report_text.specs.Words.{number_line}
 use Rattle.run_judge.specs.Judgement.{event_of, judgement_of}
 use Rattle.run_judge.specs.declared.event.RunEvent.{RunEvent}
@@ -24,16 +24,10 @@ use Rattle.tool_core.proofs.RunWidths.{run_widths}
 within_limits : (text : List ℕ) (test : LitmusTest) → Reads text (Accepted test) → limit_of test ≡ None
 within_limits text test (accepted t s h) = h
 
-one_test : (text : List ℕ) (test other : LitmusTest) → Reads text (Accepted test) → Reads text (Accepted other)
-    → other ≡ test
-one_test text test other p q =
-    let same : Accepted other ≡ Accepted test =
-    sym ((one_reading text).1 (Accepted other) q) ∙ (one_reading text).1 (Accepted test) p in
-    cc
-
 -- the right text for the parts of a written run
 legal_line : (test : LitmusTest) (n : ℕ) (events : List RunEvent) → IsRunOf test n (map event_of events)
-    → judgement_line (length events) (judgement_of test n (map event_of events)) ≡ number_line (codes "Legal") (length events)
+    → judgement_line (length events) (judgement_of test n (map event_of events))
+    ≡ number_line (codes "Legal") (length events)
 legal_line test n events r = ap (judgement_line (length events)) ((legal_is_run_lem test n (map event_of events)).1 r)
 
 said_legal : (litmus : List ℕ) (test : LitmusTest) (n : ℕ) (events : List RunEvent) (said : List ℕ)
@@ -54,7 +48,11 @@ legal_said litmus test n events reads short leads low high r =
     let due : due_for_test Judge test parts ≡ None = ap due_for_lines (back.tells parts.line) in
     record {
       none_due =
-          due_for_text Judge input parts None back.parts short (record { answer = Accepted test; reads = reads; is = due });
+          due_for_text Judge input parts None back.parts short (record {
+            answer = Accepted test;
+            reads = reads;
+            is = due;
+          });
       answers = λ done still. record {
         parts = parts;
         test = test;
@@ -62,10 +60,11 @@ legal_said litmus test n events reads short leads low high r =
         right = (still, record { events = events; are = back.tells parts.line; is = sym (legal_line test n events r) });
       };
       only = λ done said a.
-          let same : a.parts ≡ parts = (let e : Some a.parts ≡ Some parts = sym a.accepts.parts_are ∙ back.parts in cc) in
+          let same : a.parts ≡ parts = (let e : Some a.parts ≡ Some parts = sym a.accepts.parts_are ∙ back.parts in cc)
+          in
           let other : Reads litmus (Accepted a.test) =
           subst (λ (s : Split). Reads s.litmus (Accepted a.test)) same a.accepts.reading in
-          let this : a.test ≡ test = one_test litmus test a.test reads other in
+          let this : a.test ≡ test = same_test litmus a.test test other reads in
           let judged : IsJudged a.test parts said = subst (λ (s : Split). IsJudged a.test s said) same a.right.1 in
           said_legal litmus test n events said back r (subst (λ (t : LitmusTest). IsJudged t parts said) this judged);
     }

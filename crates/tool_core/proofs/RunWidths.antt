@@ -12,12 +12,12 @@ use Rattle.x86_subset.specs.Test.{Code, LitmusTest, body_of}
 use Rattle.x86_subset.specs.declared.instr.Instr.{Instr}
 use Rattle.x86_subset.specs.declared.test.Shape.{Shape}
 use Rattle.x86_subset.specs.declared.test.Shape.TheVariants.{Threads, Locations, Instrs}
-use Rattle.seq_conv.specs.Event.{Event, event_location}
-use Rattle.seq_conv.specs.Log.{value_read, value_read_as}
-use Rattle.seq_conv.specs.Run.{IsRunOf}
+use Rattle.tso_machine.specs.Event.{Event, event_location}
+use Rattle.tso_machine.specs.Log.{value_read, value_read_as}
+use Rattle.tso_machine.specs.Run.{IsRunOf}
 use Rattle.seq_conv.specs.Sequence.{Site, store_count, stores_in_body, stores_in_bodies}
-use Rattle.seq_conv.specs.Source.{source_of}
-use Rattle.seq_conv.proofs.Sources.{values_name_their_source_lem}
+use Rattle.tso_machine.specs.Source.{source_of}
+use Rattle.tso_machine.proofs.Sources.{values_name_their_source_lem}
 use Rattle.run_judge.specs.Judgement.{event_of, fault_of, is_named, judgement_after, judgement_by, kind_of_run}
 use Rattle.run_judge.specs.declared.event.RunEvent.{RunEvent}
 use Rattle.run_judge.specs.declared.event.RunKind.{RunKind}
@@ -64,7 +64,8 @@ one_more s ss false n h = omega arith
 stores_few : (x t p : ℕ) (body : List Instr) → length (stores_in_body x t p body) ≤ length body
 stores_few x t p [] = omega arith
 stores_few x t p (a ∷ body) =
-    one_more (record { thread = t; place = p }) (stores_in_body x t (p + 1) body) (is_store_to x a) (length body) (stores_few x t (p + 1) body)
+    one_more (record { thread = t; place = p }) (stores_in_body x t (p + 1) body) (is_store_to x a) (length body)
+    (stores_few x t (p + 1) body)
 
 all_stores_few : (x t : ℕ) (codes : List Code) → list_any is_long codes ≡ false
     → length (stores_in_bodies x t codes) ≤ 16 * length codes
@@ -91,7 +92,8 @@ all_named : (test : LitmusTest) (n : ℕ) (before es : List Event) → judgement
 all_named test n before [] h = All-nil (λ e. is_named test n e ≡ true)
 all_named test n before (e ∷ es) h =
     let p = legal_parts (fault_of test n before e) (length before) (judgement_after test n (before ++ e ∷ []) es) h in
-    All-cons (λ d. is_named test n d ≡ true) e es (named_here (is_named test n e) _ p.0) (all_named test n (before ++ e ∷ []) es p.1)
+    All-cons (λ d. is_named test n d ≡ true) e es (named_here (is_named test n e) _ p.0)
+    (all_named test n (before ++ e ∷ []) es p.1)
 
 run_named : (test : LitmusTest) (n : ℕ) (run : List Event) → IsRunOf test n run
     → All (λ e. is_named test n e ≡ true) run
@@ -106,7 +108,8 @@ value_few test n run k d v r lt h =
     let e = get_or run k d in
     let split : run ≡ take k run ++ e ∷ drop (suc k) run =
     sym (take-append-drop k run) ∙ ap (λ es. take k run ++ es) (drop-cons run k d lt) in
-    bounded test n (event_location test e) v (source_of test e (take k run)) (values_name_their_source_lem test n run (take k run) (drop (suc k) run) e v r split h)
+    bounded test n (event_location test e) v (source_of test e (take k run))
+    (values_name_their_source_lem test n run (take k run) (drop (suc k) run) e v r split h)
 
 value_width : (test : LitmusTest) (n : ℕ) (run : List Event) (k : ℕ) (d : Event) (v : ℕ) → IsFew test → n ≤ 100000
     → IsRunOf test n run → k < length run

@@ -31,7 +31,8 @@ Fit n (c ∷ cs) (l ∷ ls) = (l.columns ≡ c) × (length l.values ≡ n * l.co
 -- what it is that a line tells a log of thread t
 abbrev IsTold : List ℕ → ℕ → ℕ → Option Values → Type 0
 IsTold columns n t told =
-    IfSome told (λ log. (c : ℕ) × (slice_get columns t ≡ Some c) × (log.columns ≡ c) × (length log.values ≡ n * log.columns))
+    IfSome told (λ log. (c : ℕ) × (slice_get columns t ≡ Some c) × (log.columns ≡ c)
+    × (length log.values ≡ n * log.columns))
 
 told_count : (columns : List ℕ) (n t c : ℕ) (vs : List ℕ) (whole : Bool) → (length vs == c * n) ≡ whole
     → slice_get columns t ≡ Some c
@@ -94,10 +95,12 @@ fit_later columns n t log logs (Err bad) is fit e = absurd (cc)
 -- by what the first line says, where this holds of the others
 fit_line : (columns : List ℕ) (n line t : ℕ) (l : List ℕ) (ls : List (List ℕ)) (logs : List Values) (some : Bool)
     (log : Option Values) → has_words l ≡ some → log_for columns n t (words l) ≡ log
-    → ((from : ℕ) (more : List Values) → logs_from columns n (line + 1) from ls ≡ Ok more → Fit n (drop from columns) more)
+    → ((from : ℕ) (more : List Values) → logs_from columns n (line + 1) from ls ≡ Ok more
+    → Fit n (drop from columns) more)
     → logs_from columns n line t (l ∷ ls) ≡ Ok logs → Fit n (drop t columns) logs
 fit_line columns n line t l ls logs false log w h rest e = rest t logs (sym (blank_first columns n line t l ls w) ∙ e)
-fit_line columns n line t l ls logs true None w h rest e = let fault = fault_first columns n line t l ls w h in absurd (cc)
+fit_line columns n line t l ls logs true None w h rest e =
+    let fault = fault_first columns n line t l ls w h in absurd (cc)
 fit_line columns n line t l ls logs true (Some log) w h rest e =
     fit_later columns n t log logs (logs_from columns n (line + 1) (t + 1) ls)
     (subst (IsTold columns n t) h (told columns n t (words l))) (rest (t + 1))
@@ -122,21 +125,26 @@ fit_whole : (n : ℕ) (cs : List ℕ) (ls : List Values) → Fit n cs ls → Are
 fit_whole n [] [] fit = All-nil (λ (log : Values). length log.values ≡ n * log.columns)
 fit_whole n [] (l ∷ ls) fit = absurd fit
 fit_whole n (c ∷ cs) [] fit = absurd fit
-fit_whole n (c ∷ cs) (l ∷ ls) fit = All-cons (λ (log : Values). length log.values ≡ n * log.columns) l ls fit.1 (fit_whole n cs ls fit.2)
+fit_whole n (c ∷ cs) (l ∷ ls) fit =
+    All-cons (λ (log : Values). length log.values ≡ n * log.columns) l ls fit.1 (fit_whole n cs ls fit.2)
 
-fit_columns : (n : ℕ) (cs : List ℕ) (ls : List Values) → Fit n cs ls → (t : ℕ) → t < length ls → (log_at ls t).columns ≡ get_or cs t 0
+fit_columns : (n : ℕ) (cs : List ℕ) (ls : List Values) → Fit n cs ls → (t : ℕ) → t < length ls
+    → (log_at ls t).columns ≡ get_or cs t 0
 fit_columns n [] [] fit t lt = absurd (let none : ⊥ = omega arith in none)
 fit_columns n [] (l ∷ ls) fit t lt = absurd fit
 fit_columns n (c ∷ cs) [] fit t lt = absurd fit
 fit_columns n (c ∷ cs) (l ∷ ls) fit zero lt = fit.0
 fit_columns n (c ∷ cs) (l ∷ ls) fit (suc t) lt = fit_columns n cs ls fit.2 t (omega arith)
 
-pub section_logs_are : (test : LitmusTest) (parts : Split) (logs : List Values) → section_logs test parts ≡ Ok logs → AreLogsFor test parts.iterations logs
+pub section_logs_are : (test : LitmusTest) (parts : Split) (logs : List Values) → section_logs test parts ≡ Ok logs
+    → AreLogsFor test parts.iterations logs
 section_logs_are test parts logs e =
     let count = length test.bodies in
     let columns = map (columns_of test) (range_with_len 0 count) in
-    let fit : Fit parts.iterations columns logs = logs_fit columns parts.iterations parts.line 0 parts.lines logs (from_first_thread columns parts.iterations parts.line parts.lines ∙ e) in
-    let long : length logs ≡ count = fit_count parts.iterations columns logs fit ∙ length-map-range_with_len (columns_of test) 0 count in
+    let fit : Fit parts.iterations columns logs = logs_fit columns parts.iterations parts.line 0 parts.lines logs
+    (from_first_thread columns parts.iterations parts.line parts.lines ∙ e) in
+    let long : length logs ≡ count = fit_count parts.iterations columns logs fit
+    ∙ length-map-range_with_len (columns_of test) 0 count in
     record {
       count = long;
       columns = λ t lt.

@@ -8,11 +8,17 @@ use Rattle.verdict.specs.declared.answer.Verdict.TheVariants.{Forbidden, Open}
 use Rattle.tool_core.specs.Texts.{IsVerdictOn, IsVerdictText, verdict_text_of}
 use Rattle.tool_core.specs.Texts.IsVerdictOn.{forbidden, opened}
 
-verdict_on : (checked : CheckedTest) (verdict : Verdict) (text : List ℕ) → IsVerdict checked verdict → text ≡ verdict_text_of verdict → IsVerdictOn checked text
+verdict_on : (checked : CheckedTest) (verdict : Verdict) (text : List ℕ) → IsVerdict checked verdict
+    → text ≡ verdict_text_of verdict → IsVerdictOn checked text
 verdict_on checked (Forbidden cycles) text is e = forbidden (map (λ cycle. cycle.items) cycles.items) is e
 verdict_on checked (Open c) text is e = opened c is e
 
-pub verdict_said : (checked : CheckedTest) (verdict : Verdict) (r : Result (String Global) NoMemory) → IsChecked checked → IsVerdict checked verdict
+pub verdict_said : (checked : CheckedTest) (verdict : Verdict) (r : Result (String Global) NoMemory) → IsChecked checked
+    → IsVerdict checked verdict
     → IfOk r (λ t. string_bytes t ≡ verdict_text_of verdict) → IfOk r (λ t. IsVerdictText checked.test (string_bytes t))
-verdict_said checked verdict (Ok t) is right e = record { kinds = checked.kinds; are = is.kinds; is = verdict_on checked verdict (string_bytes t) right e }
+verdict_said checked verdict (Ok t) is right e = record {
+  kinds = checked.kinds;
+  are = is.kinds;
+  is = verdict_on checked verdict (string_bytes t) right e;
+}
 verdict_said checked verdict (Err e) is right _ = tt

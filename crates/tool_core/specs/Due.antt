@@ -1,6 +1,7 @@
 -- Which refusal is due for a command and its input: this project's own order of refusals.
-use Rattle.std.specs.Prelude.{◌≡◌, ◌≤◌, ℕ, ◌*◌, Bool, true, List, [], length, codes, map, nat_lt, if◌then◌else◌, Option, None, Some, Result, Ok, Err, option_map, MatchBool}
+use Rattle.std.specs.Prelude.{◌≡◌, ◌≤◌, ℕ, ◌*◌, List, [], length, codes, map, nat_lt, if◌then◌else◌, Option, None, Some, Result, Ok, Err, option_map, MatchBool}
 use Rattle.std.specs.List.{range_with_len}
+use Rattle.perp_base.specs.declared.limits.TheConstants.{MOST_BYTES, MOST_INPUT}
 use Rattle.perp_base.specs.Bytes.{GaveAll, IsOver}
 use Rattle.perp_base.specs.Causes.{Rose}
 use Rattle.x86_subset.specs.Test.{LitmusTest, body_of, columns_of}
@@ -106,7 +107,8 @@ pub record IsDueForText (command : Command) (parts : Split) (due : Option ToolSt
 abbrev pub IsDueForParts : Command → Option Split → Option ToolStatus → Type 0
 IsDueForParts command None due = due ≡ Some NoSection
 IsDueForParts command (Some parts) due =
-    MatchBool (nat_lt 65536 (length parts.litmus)) (due ≡ Some (Core (Limit Input))) (IsDueForText command parts due)
+    MatchBool (nat_lt MOST_BYTES (length parts.litmus)) (due ≡ Some (Core (Limit Input)))
+    (IsDueForText command parts due)
 
 -- the first refusal that an input within its limit deserves, or none
 abbrev pub IsDue : Command → List ℕ → Option ToolStatus → Type 0
@@ -114,15 +116,11 @@ IsDue command input due = IsDueForParts command (parts_of command input) due
 
 -- ---- refusals of a call
 
--- the most bytes of an input
-abbrev pub most_bytes : ℕ
-most_bytes = 16777216
-
 -- the words are this command's, and this is all that the source had left
 pub record Took (words : List (List ℕ)) (old new : View) (command : Command) (input : List ℕ) : Type 0 where
   pub command_is : command_of words ≡ Some command
   pub gave : GaveAll old.bytes new.bytes input
-  pub short : length input ≤ most_bytes
+  pub short : length input ≤ MOST_INPUT
 
 -- the words are those of some command
 abbrev pub IsCommand : List (List ℕ) → Type 0
@@ -133,7 +131,7 @@ pub data Refused (words : List (List ℕ)) (old new : View) : ToolStatus → Typ
   no_memory : Refused words old new (Core Memory)
   no_command : command_of words ≡ None → new ≡ old → Refused words old new (Core Usage)
   no_reading : IsCommand words → Rose old.faults new.faults → Refused words old new (Core ReadFault)
-  too_long : IsCommand words → IsOver old.bytes new.bytes most_bytes → Refused words old new TooLong
+  too_long : IsCommand words → IsOver old.bytes new.bytes MOST_INPUT → Refused words old new TooLong
   no_input : (status : ToolStatus) (command : Command) (input : List ℕ) → Took words old new command input
       → IsDue command input (Some status) → Refused words old new status
 
@@ -141,4 +139,4 @@ pub data Refused (words : List (List ℕ)) (old new : View) : ToolStatus → Typ
 pub data IsInputRefusal (old new : View) : ToolStatus → Type 0 where
   no_memory : IsInputRefusal old new (Core Memory)
   no_reading : Rose old.faults new.faults → IsInputRefusal old new (Core ReadFault)
-  too_long : IsOver old.bytes new.bytes most_bytes → IsInputRefusal old new TooLong
+  too_long : IsOver old.bytes new.bytes MOST_INPUT → IsInputRefusal old new TooLong

@@ -1,7 +1,8 @@
 -- What the commands say of texts that are written for them. This project's own.
 use Rattle.std.specs.Prelude.{◌≡◌, ℕ, ◌≤◌, List, ◌++◌, None, codes, length, map}
+use Rattle.perp_base.specs.declared.limits.TheConstants.{MOST_BYTES, MOST_ITERATIONS}
 use Rattle.x86_subset.specs.Test.{LitmusTest}
-use Rattle.seq_conv.specs.Run.{IsRunOf}
+use Rattle.tso_machine.specs.Run.{IsRunOf}
 use Rattle.litmus_reader.specs.Answer.{Accepted}
 use Rattle.litmus_reader.specs.Reading.{Reads}
 use Rattle.report_text.specs.Words.{number_line}
@@ -21,14 +22,14 @@ pub record IsJudgedSo (input text : List ℕ) : Type 0 where
   pub answers : (done : Closed) → IsStill done → IsAnswer Judge input done text
   pub only : (done : Closed) (said : List ℕ) → IsAnswer Judge input done said → said ≡ text
 
--- law: a legal run of a test that is written behind the test's text is judged legal
+-- law: a legal run of a test that is written after the test's text is judged legal
 abbrev pub WrittenRunsAreLegal : Type 0
 WrittenRunsAreLegal =
     (litmus : List ℕ) (test : LitmusTest) (n : ℕ) (events : List RunEvent)
     → Reads litmus (Accepted test)
-    → length litmus ≤ 65536
+    → length litmus ≤ MOST_BYTES
     → CanLead litmus
     → 1 ≤ n
-    → n ≤ 100000
+    → n ≤ MOST_ITERATIONS
     → IsRunOf test n (map event_of events)
     → IsJudgedSo (litmus ++ run_text_of n events) (number_line (codes "Legal") (length events))

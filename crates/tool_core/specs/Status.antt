@@ -1,12 +1,12 @@
 -- The number of each status of the second program, and its line on the error sink. This project's own.
 use Rattle.std.specs.Prelude.{ℕ, List, ◌++◌, codes, decimal}
-use Rattle.report_text.specs.Status.{HasKind, line_of, number_of}
+use Rattle.report_text.specs.Status.{HasKind, line_of, status_number}
 use Rattle.tool_core.specs.declared.status.ToolStatus.{ToolStatus}
 use Rattle.tool_core.specs.declared.status.ToolStatus.TheVariants.{Core, NoSection, BadLine, TooLong, Events, SeveralWriters}
 
 -- the number with which the program ends
 abbrev pub tool_number : ToolStatus → ℕ
-tool_number (Core status) = number_of status
+tool_number (Core status) = status_number status
 tool_number NoSection = 9
 tool_number (BadLine line) = 10
 tool_number TooLong = 11

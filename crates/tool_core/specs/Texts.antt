@@ -1,17 +1,17 @@
--- What each command writes on its output. Runs are those of x86-TSO (Sewell, Sarkar, Owens, Zappa Nardelli and Myreen, CACM 2010); the
--- texts are this project's own.
+-- What each command writes on its output. Runs are those of x86-TSO (Sewell, Sarkar, Owens, Zappa Nardelli and Myreen,
+-- CACM 2010); the texts are this project's own.
 use Rattle.std.specs.Prelude.{◌≡◌, ℕ, ◌+◌, ◌<◌, List, [], ◌∷◌, ◌++◌, Ok, codes, decimal, length, map}
 use Rattle.std.specs.List.{flat_map}
 use Rattle.x86_subset.specs.Test.{LitmusTest}
-use Rattle.seq_conv.specs.Event.{Event}
-use Rattle.seq_conv.specs.Log.{log_of}
-use Rattle.seq_conv.specs.Run.{IsRunOf}
+use Rattle.tso_machine.specs.Event.{Event}
+use Rattle.tso_machine.specs.Log.{log_of}
+use Rattle.tso_machine.specs.Run.{IsRunOf}
 use Rattle.load_log.specs.Values.{Values}
 use Rattle.profile_check.specs.Kinds.{AreKinds}
 use Rattle.profile_check.specs.Profile.{CheckedTest}
 use Rattle.profile_check.specs.declared.kind.AtomKind.{AtomKind}
 use Rattle.tso_words.specs.Seats.{Ended as Closed}
-use Rattle.tso_runs.specs.declared.options.Options.{Options}
+use Rattle.perp_base.specs.declared.options.Options.{Options}
 use Rattle.tso_runs.specs.Fits.{Fits}
 use Rattle.report_text.specs.Words.{newline, number_line}
 use Rattle.run_judge.specs.Judgement.{event_of, fault_number, judgement_of}
@@ -50,7 +50,8 @@ fault_word Short = codes "Short"
 -- the line of a wrong event
 unfoldable pub wrong_line : ℕ → JudgeFault → List ℕ
 wrong_line event fault =
-    codes "Wrong " ++ decimal event ++ codes " kind " ++ decimal (fault_number fault) ++ codes " " ++ fault_word fault ++ newline
+    codes "Wrong " ++ decimal event ++ codes " kind " ++ decimal (fault_number fault) ++ codes " " ++ fault_word fault
+    ++ newline
 
 -- the line of a judgement of so many events
 abbrev pub judgement_line : ℕ → Judgement → List ℕ
@@ -67,16 +68,20 @@ pub record IsJudged (test : LitmusTest) (parts : Split) (text : List ℕ) : Type
 
 -- the text for a value that is not right
 unfoldable pub wrong_value_line : ℕ → ℕ → ℕ → List ℕ
-wrong_value_line t i c = codes "No order value " ++ decimal t ++ codes " " ++ decimal i ++ codes " " ++ decimal c ++ newline
+wrong_value_line t i c =
+    codes "No order value " ++ decimal t ++ codes " " ++ decimal i ++ codes " " ++ decimal c ++ newline
 
 abbrev pub no_order_line : List ℕ
 no_order_line = codes "No order cycle\n"
 
--- The text tells a run that has the logs; or the first value that is not right; or that there is no run although all values are right.
+-- The text tells a run that has the logs; or the first value that is not right; or that there is no run although all
+-- values are right.
 pub data IsOrderOf (test : LitmusTest) (n : ℕ) (logs : List Values) (text : List ℕ) : Type 0 where
-  ordered : (events : List RunEvent) → IsRunOf test n (map event_of events) → HasLogs test logs (map event_of events) → AreRight test n logs
+  ordered : (events : List RunEvent) → IsRunOf test n (map event_of events) → HasLogs test logs (map event_of events)
+      → AreRight test n logs
       → text ≡ run_text_of n events → IsOrderOf test n logs text
-  wrong : (t i c : ℕ) → IsFirstWrong test n logs t i c → HasNoRun test n logs → text ≡ wrong_value_line t i c → IsOrderOf test n logs text
+  wrong : (t i c : ℕ) → IsFirstWrong test n logs t i c → HasNoRun test n logs → text ≡ wrong_value_line t i c
+      → IsOrderOf test n logs text
   none : AreRight test n logs → HasNoRun test n logs → text ≡ no_order_line → IsOrderOf test n logs text
 
 -- the text of what is found
@@ -133,9 +138,11 @@ abbrev pub verdict_text_of : Verdict → List ℕ
 verdict_text_of (Forbidden cycles) = forbidden_text (map (λ cycle. cycle.items) cycles.items)
 verdict_text_of (Open c) = number_line (codes "Open") c
 
--- The text tells one cycle for each conjunction of the test, whose atoms have these kinds, or the first conjunction that has none.
+-- The text tells one cycle for each conjunction of the test, whose atoms have these kinds, or the first conjunction
+-- that has none.
 pub data IsVerdictOn (checked : CheckedTest) (text : List ℕ) : Type 0 where
-  forbidden : (cycles : List (List Node)) → AreCycles checked cycles → text ≡ forbidden_text cycles → IsVerdictOn checked text
+  forbidden : (cycles : List (List Node)) → AreCycles checked cycles → text ≡ forbidden_text cycles
+      → IsVerdictOn checked text
   opened : (c : ℕ) → IsFirstOpen checked c → text ≡ number_line (codes "Open") c → IsVerdictOn checked text
 
 pub record IsVerdictText (test : LitmusTest) (text : List ℕ) : Type 0 where

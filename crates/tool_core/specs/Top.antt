@@ -1,7 +1,8 @@
--- What the second program's top call promises. The runs are those of x86-TSO (Sewell, Sarkar, Owens, Zappa Nardelli and Myreen, CACM
--- 2010); commands, statuses and texts are this project's own.
+-- What the second program's top call promises. The runs are those of x86-TSO (Sewell, Sarkar, Owens, Zappa Nardelli and
+-- Myreen, CACM 2010); commands, statuses and texts are this project's own.
 use Rattle.std.specs.Prelude.{◌≡◌, ◌⊎◌, ℕ, ◌<◌, ◌≤◌, List, ◌++◌, length, take, drop, Option, Some, None}
 use Rattle.std.specs.Io.KnownBytes.{Appends, IsAtEnd}
+use Rattle.perp_base.specs.declared.limits.TheConstants.{MOST_BYTES, MOST_INPUT}
 use Rattle.x86_subset.specs.Test.{LitmusTest}
 use Rattle.tso_words.specs.Seats.{Ended as Closed}
 use Rattle.litmus_reader.specs.Answer.{Accepted}
@@ -14,7 +15,7 @@ use Rattle.run_text.specs.Sections.{Split}
 use Rattle.perp_base.specs.View.{View}
 use Rattle.program_edge.specs.Field.{IsStill, SomeRunFits}
 use Rattle.tool_core.specs.Words.{command_of}
-use Rattle.tool_core.specs.Due.{IsDue, Refused, Took, due_for_test, most_bytes, parts_of}
+use Rattle.tool_core.specs.Due.{IsDue, Refused, Took, due_for_test, parts_of}
 use Rattle.tool_core.specs.Texts.{IsJudged, IsOrdered, IsSkewText, IsVerdictText, IsWitnessed, options_of}
 use Rattle.tool_core.specs.Showing.{IsShowingText}
 use Rattle.tool_core.specs.declared.words.Command.{Command}
@@ -58,7 +59,7 @@ RanFor (Skew n) test done = SomeRunFits test (options_of n) done
 -- the input has a litmus part that reads as this test, and this section, and no refusal is due
 pub record Accepts (command : Command) (input : List ℕ) (parts : Split) (test : LitmusTest) : Type 0 where
   pub parts_are : parts_of command input ≡ Some parts
-  pub short : length parts.litmus ≤ 65536
+  pub short : length parts.litmus ≤ MOST_BYTES
   pub reading : Reads parts.litmus (Accepted test)
   pub none_due : due_for_test command test parts ≡ None
 
@@ -112,7 +113,8 @@ pub data Ended (words : List (List ℕ)) (old new : View) (done : Closed) (out_o
   ended_whole : (text : List ℕ) → Answers words old new done text → Appends out_old.bytes out_new.bytes text
       → Ended words old new done out_old out_new untouched (Core Whole)
   ended_part : (text : List ℕ) → Answers words old new done text → Rose out_old.faults out_new.faults
-      → AppendsPart out_old.bytes out_new.bytes text → Ended words old new done out_old out_new untouched (Core WriteFault)
+      → AppendsPart out_old.bytes out_new.bytes text
+      → Ended words old new done out_old out_new untouched (Core WriteFault)
 
 -- the words are this command's, and the source tells that it has this input left
 pub record Told (words : List (List ℕ)) (old : View) (command : Command) (input : List ℕ) : Type 0 where
@@ -122,7 +124,7 @@ pub record Told (words : List (List ℕ)) (old : View) (command : Command) (inpu
 -- Where no refusal is due and nothing fails, only want of memory keeps the answer back.
 abbrev pub Completes : List (List ℕ) → View → View → View → View → ToolStatus → Type 0
 Completes words old new out_old out_new status = (command : Command) (input : List ℕ)
-    → Told words old command input → length input ≤ most_bytes → IsDue command input None
+    → Told words old command input → length input ≤ MOST_INPUT → IsDue command input None
     → (Rose old.faults new.faults → ⊥) → (Rose out_old.faults out_new.faults → ⊥)
     → (status ≡ Core Whole) ⊎ (status ≡ Core Memory)
 
@@ -134,15 +136,16 @@ pub record IsUsage (words : List (List ℕ)) (status : ToolStatus) : Type 0 wher
 -- The refusal that is due for the input is answered, and it yields to want of memory and to a fault of reading.
 abbrev pub AnswersDue : List (List ℕ) → View → View → ToolStatus → Type 0
 AnswersDue words old new status = (command : Command) (input : List ℕ) (refusal : ToolStatus)
-    → Told words old command input → length input ≤ most_bytes → IsDue command input (Some refusal)
+    → Told words old command input → length input ≤ MOST_INPUT → IsDue command input (Some refusal)
     → (status ≡ refusal) ⊎ ((status ≡ Core Memory) ⊎ ((status ≡ Core ReadFault) × Rose old.faults new.faults))
 
--- An input that is too long is answered as such, after one byte more than the limit was taken. It yields to want of memory and to a
--- fault of reading.
+-- An input that is too long is answered as such, after one byte more than the limit was taken. It yields to want of
+-- memory and to a fault of reading.
 abbrev pub AnswersTooLong : List (List ℕ) → View → View → ToolStatus → Type 0
 AnswersTooLong words old new status = (command : Command) (input : List ℕ)
-    → Told words old command input → most_bytes < length input
-    → ((status ≡ TooLong) × (new.bytes ≡ Some (drop 16777217 input))) ⊎ ((status ≡ Core Memory) ⊎ ((status ≡ Core ReadFault) × Rose old.faults new.faults))
+    → Told words old command input → MOST_INPUT < length input
+    → ((status ≡ TooLong) × (new.bytes ≡ Some (drop 16777217 input)))
+    ⊎ ((status ≡ Core Memory) ⊎ ((status ≡ Core ReadFault) × Rose old.faults new.faults))
 
 -- That a test is outside the profile is answered for `verdict` and `show` alone, and the limit of frames for no
 -- command.
@@ -175,17 +178,19 @@ ReadsToEnd new status = IsAfterReading status → IsAtEnd new.bytes
 abbrev pub KeepsSource : View → View → ToolStatus → Type 0
 KeepsSource old new status = status ≡ Core Usage → new ≡ old
 
--- The field moves only where the command runs the test, and only where its text was made or memory ran out after the run.
+-- The field moves only where the command runs the test, and only where its text was made or memory ran out after the
+-- run.
 pub record IsField (words : List (List ℕ)) (done : Closed) (status : ToolStatus) : Type 0 where
   pub other_command : ((command : Command) → command_of words ≡ Some command → IsStillCommand command) → IsStill done
-  pub other_status : (status ≡ Core Whole → ⊥) → (status ≡ Core WriteFault → ⊥) → (status ≡ Core Memory → ⊥) → IsStill done
+  pub other_status : (status ≡ Core Whole → ⊥) → (status ≡ Core WriteFault → ⊥) → (status ≡ Core Memory → ⊥)
+      → IsStill done
 
 -- the statuses behind which a whole run stands
 abbrev pub HasRun : ToolStatus → Type 0
 HasRun status = (status ≡ Core Whole) ⊎ (status ≡ Core WriteFault)
 
--- Where a command runs the test, what the threads did on the field is what some legal run of x86-TSO does, in which each thread
--- performs its body as often as the words ask; it ends with the field's words.
+-- Where a command runs the test, what the threads did on the field is what some legal run of x86-TSO does, in which
+-- each thread performs its body as often as the words ask; it ends with the field's words.
 abbrev pub RunFits : List (List ℕ) → View → Closed → ToolStatus → Type 0
 RunFits words old done status = (command : Command) (n : ℕ) (input : List ℕ) (test : LitmusTest)
     → Told words old command input → iterations_run command ≡ Some n → HasRun status → Reads input (Accepted test)
@@ -207,4 +212,5 @@ WritesWhole words old done out_old out_new status = (command : Command) (input b
 abbrev pub WritesPart : List (List ℕ) → View → Closed → View → View → ToolStatus → Type 0
 WritesPart words old done out_old out_new status = (command : Command) (input before : List ℕ)
     → Told words old command input → out_old.bytes ≡ Some before → status ≡ Core WriteFault
-    → HasAnswer command input done (λ text. (n : ℕ) × (n < length text) × (out_new.bytes ≡ Some (before ++ take n text)))
+    → HasAnswer command input done (λ text. (n : ℕ) × (n < length text)
+    × (out_new.bytes ≡ Some (before ++ take n text)))

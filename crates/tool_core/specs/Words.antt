@@ -1,6 +1,7 @@
 -- The words of the second program, and the command that they name. This project's own.
 use Rattle.std.specs.Prelude.{◌≤◌, ℕ, List, [], ◌∷◌, Option, Some, None, codes, if◌then◌else◌, option_map}
 use Rattle.std.specs.Str.{bytes_eq}
+use Rattle.perp_base.specs.declared.limits.TheConstants.{MOST_ITERATIONS}
 use Rattle.command_words.specs.Words.{iterations_in}
 use Rattle.tool_core.specs.declared.words.Command.{Command}
 use Rattle.tool_core.specs.declared.words.Command.TheVariants.{Judge, Order, Witness, Verdict, Show, Skew}
@@ -29,7 +30,7 @@ command_of (name ∷ words) = named_in name words
 abbrev pub HasIterations : Command → Type 0
 HasIterations Judge = Unit {0}
 HasIterations Order = Unit {0}
-HasIterations (Witness n) = (1 ≤ n) × (n ≤ 100000)
+HasIterations (Witness n) = (1 ≤ n) × (n ≤ MOST_ITERATIONS)
 HasIterations Verdict = Unit {0}
 HasIterations Show = Unit {0}
-HasIterations (Skew n) = (1 ≤ n) × (n ≤ 100000)
+HasIterations (Skew n) = (1 ≤ n) × (n ≤ MOST_ITERATIONS)

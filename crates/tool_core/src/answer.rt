@@ -10,23 +10,20 @@ ghost use Rattle.tool_core.specs.Words.{HasIterations};
 use crate::parts::parts_in;
 use crate::status::ToolStatus;
 use crate::words::{Command, read_words};
-use crate::work::{Answered, work};
+use crate::work::work;
 use command_words::WordsError;
-use perp_base::{ReadError, Source, read_input};
+use perp_base::{MOST_BYTES, MOST_INPUT, ReadError, Source, read_input};
 use perp_loop::Gate;
-use program_edge::{MOST_BYTES, read_test};
+use program_edge::{Answered, read_test};
 use report_text::{Over, Status};
 use std::alloc::Global;
 use std::thread::Threads;
 use tso_words::Field;
 
-// The most bytes of an input.
-const MOST_INPUT: usize = 16_777_216;
-
-// All that the source has left.
+/// All that the source has left.
 fn read_all<S: Source>(alloc: Global, source: &mut S) -> Result<Vec<u8>, ToolStatus>
     ensures ok { IfOk result (λ bytes. GaveAll (S.seen source.old).bytes (S.seen source.new).bytes bytes.items) }
-    ensures short { IfOk result (λ bytes. length bytes.items ≤ 16777216) }
+    ensures short { IfOk result (λ bytes. length bytes.items ≤ MOST_INPUT) }
     ensures err { IfErr result (IsInputRefusal (S.seen source.old) (S.seen source.new)) }
     ensures kind { IfErr result HasToolKind }
 {
@@ -38,7 +35,7 @@ fn read_all<S: Source>(alloc: Global, source: &mut S) -> Result<Vec<u8>, ToolSta
     }
 }
 
-// The answer of a command to an input.
+/// The answer of a command to an input.
 fn answer_input<R: Threads + Sync, G: Gate>(
     rt: &R,
     alloc: Global,
@@ -46,12 +43,13 @@ fn answer_input<R: Threads + Sync, G: Gate>(
     input: &[u8],
     field: Field,
     gate: &G,
-) -> Answered
+) -> Answered<ToolStatus>
     requires within { HasIterations command.now }
-    requires short { length input.now ≤ 16777216 }
+    requires short { length input.now ≤ MOST_INPUT }
     ensures identity { result.done.identity ≡ field }
     ensures ok { IfOk result.text (λ text. IsAnswer command.now input.now result.done (string_bytes text)) }
-    ensures err { IfErr result.text (λ status. (status ≡ ToolStatus.Core Status.Memory) ⊎ IsDue command.now input.now (Some status)) }
+    ensures err { IfErr result.text (λ status. (status ≡ ToolStatus.Core Status.Memory)
+        ⊎ IsDue command.now input.now (Some status)) }
     ensures done { IfErr result.text (IsStillOrRan command.now input.now result.done) }
     ensures kind { IfErr result.text HasToolKind }
 {
@@ -75,9 +73,10 @@ pub fn answer<R: Threads + Sync, S: Source, G: Gate>(
     source: &mut S,
     field: Field,
     gate: &G,
-) -> Answered
+) -> Answered<ToolStatus>
     ensures identity { result.done.identity ≡ field }
-    ensures ok { IfOk result.text (λ text. Answers (bytes_of words.now) (S.seen source.old) (S.seen source.new) result.done (string_bytes text)) }
+    ensures ok { IfOk result.text (λ text. Answers (bytes_of words.now) (S.seen source.old)
+        (S.seen source.new) result.done (string_bytes text)) }
     ensures err { IfErr result.text (Refused (bytes_of words.now) (S.seen source.old) (S.seen source.new)) }
     ensures done { IfErr result.text (Leaves (bytes_of words.now) (S.seen source.old) (S.seen source.new) result.done) }
     ensures kind { IfErr result.text HasToolKind }

@@ -6,6 +6,7 @@ ghost use Rattle.run_text.specs.Events.{events_of};
 ghost use Rattle.run_text.specs.Sections.{seen};
 ghost use Rattle.tool_core.specs.Due.{due_for_lines};
 ghost use Rattle.tool_core.specs.Texts.{IsJudged, fault_word, judgement_line, wrong_line};
+ghost use Rattle.perp_base.specs.declared.limits.TheConstants.{MOST_ITERATIONS};
 
 use crate::status::ToolStatus;
 use perp_base::NoMemory;
@@ -47,7 +48,7 @@ fn wrong_text(alloc: Global, event: u64, fault: JudgeFault) -> Result<String, No
     Ok(text)
 }
 
-// The line of a judgement of so many events.
+/// The line of a judgement of so many events.
 fn judgement_text(alloc: Global, count: usize, judgement: &Judgement) -> Result<String, NoMemory>
     ensures { IfOk result (λ text. string_bytes text ≡ judgement_line count judgement.now) }
 {
@@ -57,10 +58,11 @@ fn judgement_text(alloc: Global, count: usize, judgement: &Judgement) -> Result<
     }
 }
 
-// The judgement of events.
+/// The judgement of events.
 fn judged(alloc: Global, test: &Test, n: u32, events: &[RunEvent]) -> Result<String, NoMemory>
-    requires { n ≤ 100000 }
-    ensures { IfOk result (λ text. string_bytes text ≡ judgement_line (length events.now) (judgement_of test.now n (map event_of events.now))) }
+    requires { n ≤ MOST_ITERATIONS }
+    ensures { IfOk result (λ text. string_bytes text
+        ≡ judgement_line (length events.now) (judgement_of test.now n (map event_of events.now))) }
 {
     let sequences = Sequences::of(alloc, test)?;
     let judgement = judge(alloc, test, &sequences, n, events)?;
@@ -73,9 +75,10 @@ pub fn judge_section(
     test: &Test,
     section: &Section<'_>,
 ) -> Result<String, ToolStatus>
-    requires iterations { section.now.iterations ≤ 100000 }
+    requires iterations { section.now.iterations ≤ MOST_ITERATIONS }
     requires short { section.now.line + length section.now.lines.now < 2 ^ 32 }
-    ensures none_due { IfOk result (λ _. due_for_lines (events_of (seen section.now).line (seen section.now).lines) ≡ None) }
+    ensures none_due { IfOk result (λ _. due_for_lines (events_of (seen section.now).line (seen section.now).lines)
+        ≡ None) }
     ensures text { IfOk result (λ text. IsJudged test.now (seen section.now) (string_bytes text)) }
     ensures err { IfErr result (λ status. (status ≡ ToolStatus.Core Status.Memory)
         ⊎ (due_for_lines (events_of (seen section.now).line (seen section.now).lines) ≡ Some status)) }

@@ -6,7 +6,7 @@
 //! input. The cause of each status is the clause `ended`; its clauses `usage`, `due` and `too_long` say that each
 //! refusal comes exactly where it is due (`specs/Due`), and `complete` that where none is due and nothing fails the
 //! answer is whole, or memory ran out. The law `written_runs_are_legal` (`specs/Laws`) says that where a legal run of a
-//! test is written behind the test's text, no refusal is due, and `Legal` with the number of its events is the one
+//! test is written after the test's text, no refusal is due, and `Legal` with the number of its events is the one
 //! right answer.
 #![tactic(auto)]
 
@@ -16,6 +16,7 @@ mod judging;
 mod laws;
 mod ordering;
 mod parts;
+mod reasons;
 mod running;
 mod showing;
 mod skews;
@@ -29,9 +30,10 @@ mod writers;
 
 pub use laws::written_runs_are_legal;
 pub use perp_loop::{Gate, NoGate};
+pub use program_edge::Outcome;
 pub use report_text::{Over, Status};
 pub use status::ToolStatus;
-pub use top::{ToolOutcome, tool};
+pub use top::tool;
 pub use tso_words::{Done, Field};
 
 #[cfg(test)]

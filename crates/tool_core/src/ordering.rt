@@ -2,7 +2,6 @@
 ghost use Rattle.std.specs.Prelude.{◌≡◌, ◌+◌, ◌<◌, ◌≤◌, ◌^◌, ◌⊎◌, All, codes, length, map, IfOk, IfErr, None, Some, string_bytes};
 ghost use Rattle.std.specs.List.{range_with_len};
 ghost use Rattle.x86_subset.specs.Test.{columns_of};
-ghost use Rattle.load_log.specs.Values.{most_columns};
 ghost use Rattle.seq_conv.specs.Numbers.{AreOf};
 ghost use Rattle.run_text.specs.Sections.{seen};
 ghost use Rattle.run_witness.specs.Order.{AreLogsFor, HasWriters};
@@ -10,6 +9,7 @@ ghost use Rattle.tool_core.specs.Due.{due_for_test};
 ghost use Rattle.tool_core.specs.Status.{HasToolKind};
 ghost use Rattle.tool_core.specs.Texts.{IsOrderOf, IsOrdered, no_order_line, order_text_of, wrong_value_line};
 ghost use Rattle.tool_core.specs.declared.words.Command.{Command};
+ghost use Rattle.perp_base.specs.declared.limits.TheConstants.{MOST_ACTIONS, MOST_ITERATIONS};
 
 use crate::status::ToolStatus;
 use crate::witnessing::run_text;
@@ -24,10 +24,11 @@ use std::alloc::Global;
 use std::fmt::Write;
 use x86_subset::Test;
 
-// How many columns each thread's log has.
+/// How many columns each thread's log has.
 fn columns_in(alloc: Global, test: &Test) -> Result<Vec<usize>, NoMemory>
-    ensures columns { IfOk result (λ v. v.items ≡ map (columns_of test.now) (range_with_len 0 (length test.now.bodies))) }
-    ensures few { IfOk result (λ v. All (λ c. c ≤ most_columns) v.items) }
+    ensures columns { IfOk result (λ v. v.items ≡ map (columns_of test.now)
+        (range_with_len 0 (length test.now.bodies))) }
+    ensures few { IfOk result (λ v. All (λ c. c ≤ MOST_ACTIONS) v.items) }
 {
     let mut columns = Vec::new(alloc);
     for t in 0..test.threads() {
@@ -72,7 +73,7 @@ fn found_text(alloc: Global, n: u32, found: &Found) -> Result<String, NoMemory>
     }
 }
 
-// What is found from logs.
+/// What is found from logs.
 fn order_text(
     alloc: Global,
     test: &Test,
@@ -83,7 +84,7 @@ fn order_text(
     requires sequences { AreOf test.now sequences.now }
     requires writers { HasWriters test.now }
     requires logs { AreLogsFor test.now n logs.now.logs }
-    requires few { n ≤ 100000 }
+    requires few { n ≤ MOST_ITERATIONS }
     ensures { IfOk result (λ text. IsOrderOf test.now n logs.now.logs (string_bytes text)) }
 {
     let found = witness(alloc, test, sequences, n, logs)?;
@@ -96,7 +97,7 @@ pub fn order_section(
     test: &Test,
     section: &Section<'_>,
 ) -> Result<String, ToolStatus>
-    requires iterations { section.now.iterations ≤ 100000 }
+    requires iterations { section.now.iterations ≤ MOST_ITERATIONS }
     requires line { 1 ≤ section.now.line }
     requires short { section.now.line + length section.now.lines.now < 2 ^ 32 }
     ensures none_due { IfOk result (λ _. due_for_test Command.Order test.now (seen section.now) ≡ None) }

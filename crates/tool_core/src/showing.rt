@@ -9,8 +9,8 @@ ghost use Rattle.program_edge.specs.Form.{due_for_atoms};
 ghost use Rattle.tool_core.specs.Status.{HasToolKind};
 ghost use Rattle.tool_core.specs.Showing.{IsFirstShown, IsShowingText, IsShownBy, NoneIsShown, unshown_text_of};
 
+use crate::reasons::{Unshown, reasons_of, reasons_text};
 use crate::status::ToolStatus;
-use crate::verdicts::cycles_text;
 use crate::witnessing::run_text;
 use decision::{Shown, is_ordered, show};
 use perp_base::NoMemory;
@@ -20,10 +20,9 @@ use report_text::Status;
 use run_judge::RunEvent;
 use seq_conv::Sequences;
 use std::alloc::Global;
-use verdict::{Verdict, verdict};
 use x86_subset::Test;
 
-// The events that show a conjunction, where it is ordered and has no cycle.
+/// The events that show a conjunction, where it is ordered and has no cycle.
 fn events_at(
     alloc: Global,
     checked: &Checked,
@@ -46,7 +45,7 @@ fn events_at(
     }
 }
 
-// The events that show the first conjunction that is ordered and has no cycle, if there is one.
+/// The events that show the first conjunction that is ordered and has no cycle, if there is one.
 fn first_shown(
     alloc: Global,
     checked: &Checked,
@@ -72,34 +71,34 @@ fn undecided_text(alloc: Global, conjunction: u32) -> Result<String, NoMemory>
     Ok(text)
 }
 
-fn unshown_text(alloc: Global, verdict: &Verdict) -> Result<String, NoMemory>
-    ensures { IfOk result (λ text. string_bytes text ≡ unshown_text_of verdict.now) }
+fn unshown_text(alloc: Global, unshown: &Unshown) -> Result<String, NoMemory>
+    ensures { IfOk result (λ text. string_bytes text ≡ unshown_text_of unshown.now) }
 {
-    match verdict {
-        Verdict::Forbidden(cycles) => cycles_text(alloc, cycles),
-        Verdict::Open { conjunction } => undecided_text(alloc, *conjunction),
+    match unshown {
+        Unshown::Forbidden(reasons) => reasons_text(alloc, reasons),
+        Unshown::Undecided { conjunction } => undecided_text(alloc, *conjunction),
     }
 }
 
-// The text where no run is shown.
-fn unshown(alloc: Global, checked: &Checked, sequences: &Sequences) -> Result<String, NoMemory>
+/// The text where no run is shown.
+fn none_shown(alloc: Global, checked: &Checked, sequences: &Sequences) -> Result<String, NoMemory>
     requires same { AreOf checked.now.test sequences.now }
     requires none { NoneIsShown checked.now (length checked.now.test.ends) }
     ensures { IfOk result (λ text. IsShowingText checked.now.test (string_bytes text)) }
 {
     let _test = checked.test();
-    let verdict = verdict(alloc, checked, sequences)?;
-    unshown_text(alloc, &verdict)
+    let unshown = reasons_of(alloc, checked, sequences)?;
+    unshown_text(alloc, &unshown)
 }
 
-// What is shown of a test whose atoms have kinds.
+/// What is shown of a test whose atoms have kinds.
 fn shown(alloc: Global, checked: &Checked) -> Result<String, NoMemory>
     ensures { IfOk result (λ text. IsShowingText checked.now.test (string_bytes text)) }
 {
     let sequences = Sequences::of(alloc, checked.test())?;
     match first_shown(alloc, checked, &sequences)? {
         Some(events) => run_text(alloc, 1, &events),
-        None => unshown(alloc, checked, &sequences),
+        None => none_shown(alloc, checked, &sequences),
     }
 }
 

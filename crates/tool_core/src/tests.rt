@@ -1,4 +1,4 @@
-// Calls of the second program over memory sources and sinks, row by row.
+//! Calls of the second program over memory sources and sinks, row by row.
 ghost use Rattle.std.specs.Prelude.{◌<◌, None, length};
 ghost use Rattle.std.specs.Io.{ReadsAtMost};
 ghost use Rattle.std.specs.Io.KnownBytes.{ReadConsumes};
@@ -42,11 +42,11 @@ const EITHER: &str =
 const TWO_WRITERS: &str =
     "X86 TWO\n{ }\n P0 | P1 | P2 ;\n MOV [x],$1 | MOV [x],$2 | MOV EAX,[x] ;\n";
 
-// The stores of the second location stand in two threads, and 100,000 iterations have 1,200,000 events.
+/// The stores of the second location stand in two threads, and 100,000 iterations have 1,200,000 events.
 const BUSY: &str =
     "X86 BUSY\n{ x=0; y=0; }\n P0 | P1 ;\n MOV [x],$1 | MOV EAX,[x] ;\n MOV [y],$1 | MOV [y],$2 ;\n MOV EAX,[y] | MOV EBX,[y] ;\nexists (0:EAX=0)\n";
 
-// The words of a line, which stand between single spaces; an empty line has none.
+/// The words of a line, which stand between single spaces; an empty line has none.
 fn words_of(alloc: Global, line: &str) -> Result<Vec<String>, Fail> {
     let mut words = Vec::new(alloc);
     if line.is_empty() {
@@ -58,7 +58,7 @@ fn words_of(alloc: Global, line: &str) -> Result<Vec<String>, Fail> {
     Ok(words)
 }
 
-// How a call ended, its sinks, and the first two words of the field.
+/// How a call ended, its sinks, and the first two words of the field.
 #[derive(Drop)]
 struct Called {
     status: ToolStatus,
@@ -67,7 +67,7 @@ struct Called {
     words: (u64, u64),
 }
 
-// The number of the call of the source, of the output and of the error sink that fails. Calls are numbered from 1.
+/// The number of the call of the source, of the output and of the error sink that fails. Calls are numbered from 1.
 #[derive(Clone, Copy)]
 struct Failing {
     read: u64,
@@ -81,7 +81,7 @@ const NEVER: Failing = Failing {
     line: 0,
 };
 
-// A call over sinks that move at most 16 bytes at a time.
+/// A call over sinks that move at most 16 bytes at a time.
 fn call_on<R: Threads + Sync, S: Source>(
     rt: &R,
     alloc: Global,
@@ -104,7 +104,7 @@ fn call_on<R: Threads + Sync, S: Source>(
     })
 }
 
-// A call over a source that gives at most 16 bytes at a time.
+/// A call over a source that gives at most 16 bytes at a time.
 fn call<R: Threads + Sync>(
     rt: &R,
     alloc: Global,
@@ -116,21 +116,21 @@ fn call<R: Threads + Sync>(
     call_on(rt, alloc, line, &mut source, failing)
 }
 
-// The call ended so, and wrote this to its sinks.
+/// The call ended so, and wrote this to its sinks.
 fn assert_ended(rt: &impl Abort, called: &Called, at: &str, status: u8, out: &[u8], err: &str) {
     assert_eq!(rt; called.status.number(), status, "status at {at}");
     assert_eq!(rt; called.out.written(), out, "output at {at}");
     assert_eq!(rt; called.err.written(), err.as_bytes(), "line at {at}");
 }
 
-// The text with a section behind it.
+/// The text with a section after it.
 fn with_section(alloc: Global, text: &str, section: &str) -> Result<Vec<u8>, Fail> {
     let mut input = Vec::from_slice(alloc, text.as_bytes())?;
     input.extend_from_slice(section.as_bytes())?;
     Ok(input)
 }
 
-// A call in which nothing fails ends so, writes this to its sinks, and makes no step on the field.
+/// A call in which nothing fails ends so, writes this to its sinks, and makes no step on the field.
 fn assert_answer<R: Threads + Sync + Abort>(
     rt: &R,
     alloc: Global,
@@ -146,7 +146,7 @@ fn assert_answer<R: Threads + Sync + Abort>(
     Ok(())
 }
 
-// The same of a text with a section behind it.
+/// The same of a text with a section after it.
 fn assert_row<R: Threads + Sync + Abort>(
     rt: &R,
     alloc: Global,
@@ -170,7 +170,7 @@ fn rows_are_answered(rt: HostRuntime) -> Result<(), Fail> {
     Ok(())
 }
 
-// A test, and the first line of its verdict.
+/// A test, and the first line of its verdict.
 const VERDICTS: [(&str, &str); 8] = [
     (SBF, "Forbidden\nCycle 0 "),
     (SBX, "Forbidden\nCycle 0 "),
@@ -212,8 +212,8 @@ fn reads_of_several_writers_have_no_skew(rt: HostRuntime) -> Result<(), Fail> {
     Ok(())
 }
 
-// The words, a test, the section behind it, what `judge` says of the run that is written, and the field's first two words. Of each
-// iteration each store has two events, and each other action has one.
+/// The words, a test, the section after it, what `judge` says of the run that is written, and the field's first two
+/// words. Of each iteration each store has two events, and each other action has one.
 const FOUND: [(&str, &str, &str, &str, (u64, u64)); 5] = [
     ("order", SB, "%logs 1\nP0 0\nP1 0\n", "Legal 6\n", (0, 0)),
     (
@@ -243,7 +243,7 @@ fn found_runs_are_legal(rt: HostRuntime) -> Result<(), Fail> {
     Ok(())
 }
 
-// The lines of a section, how each is answered while it is cut, and what is written once it is whole.
+/// The lines of a section, how each is answered while it is cut, and what is written once it is whole.
 const GROWING: [(&str, u8, &str, &str); 7] = [
     (
         "%events 1",
@@ -284,7 +284,7 @@ const GROWING: [(&str, u8, &str, &str); 7] = [
     ("P1 0 0 drain", 10, "perple: section line 13\n", "Legal 6\n"),
 ];
 
-// Each prefix of the text behind the input is answered so.
+/// Each prefix of the text after the input is answered so.
 fn assert_prefixes<R: Threads + Sync + Abort>(
     rt: &R,
     alloc: Global,
@@ -320,7 +320,7 @@ fn prefixes_are_answered(rt: HostRuntime) -> Result<(), Fail> {
     Ok(())
 }
 
-// A source of blanks without an end.
+/// A source of blanks without an end.
 #[derive(Clone, Copy)]
 struct Blanks;
 
@@ -338,7 +338,8 @@ impl Source for Blanks {
     }
 }
 
-// How many bytes the litmus part has before its last line feed, the number of the status, and what is written to both sinks.
+/// How many bytes the litmus part has before its last line feed, the number of the status, and what is written to both
+/// sinks.
 const LONG: [(usize, u8, &str, &str); 2] = [
     (65_535, 0, "Wrong 1 kind 6 Short\n", ""),
     (65_536, 7, "", "perple: limit input 65536\n"),
@@ -374,8 +375,9 @@ fn inputs_without_an_end_are_refused(rt: HostRuntime) -> Result<(), Fail> {
     Ok(())
 }
 
-// Of `order` on SB with two logs: which call of the source and of the output fails, the number of the status, how many bytes
-// stand on the output, and the line. The input has 134 bytes, so its end is found by the tenth read, and each write has 16 bytes.
+/// Of `order` on SB with two logs: which call of the source and of the output fails, the number of the status, how many
+/// bytes stand on the output, and the line. The input has 134 bytes, so its end is found by the tenth read, and each
+/// write has 16 bytes.
 const FAILING: [(u64, u64, u8, usize, &str); 18] = [
     (1, 0, 3, 0, "perple: reading failed\n"),
     (2, 0, 3, 0, "perple: reading failed\n"),
@@ -397,7 +399,8 @@ const FAILING: [(u64, u64, u8, usize, &str); 18] = [
     (0, 0, 0, 88, ""),
 ];
 
-/// Each call of the source and of the output fails in turn, and what stands on the output is a front part of the whole answer.
+/// Each call of the source and of the output fails in turn, and what stands on the output is a front part of the whole
+/// answer.
 #[test]
 fn each_call_may_fail(rt: HostRuntime) -> Result<(), Fail> {
     let alloc = rt.alloc();
@@ -418,7 +421,7 @@ fn each_call_may_fail(rt: HostRuntime) -> Result<(), Fail> {
     Ok(())
 }
 
-// Which call of the error sink fails, and what stands there. The line has 23 bytes.
+/// Which call of the error sink fails, and what stands there. The line has 23 bytes.
 const LOST: [(u64, &str); 3] = [
     (1, ""),
     (2, "perple: section "),

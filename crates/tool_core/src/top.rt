@@ -7,26 +7,18 @@ ghost use Rattle.tool_core.specs.Top.{Ended, Completes, IsUsage, RunFits, Writes
 use crate::answer::answer;
 use crate::deliver::deliver;
 use crate::status::ToolStatus;
-use crate::work::Answered;
 use perp_base::{Sink, Source};
 use perp_loop::Gate;
-use program_edge::put_line;
+use program_edge::{Answered, Outcome, put_line};
 use std::alloc::Global;
 use std::thread::Threads;
-use tso_words::{Done, Field};
+use tso_words::Field;
 
-/// How a call ended, and the field that it was given, closed.
-#[derive(Drop)]
-pub struct ToolOutcome {
-    pub status: ToolStatus,
-    pub done: Done,
-}
-
-/// Does what the words ask for: reads a litmus test and, where the command has one, a section from the source, and writes the answer to
-/// `out`, or the line of a refusal to `err`.
+/// Does what the words ask for: reads a litmus test and, where the command has one, a section from the source, and
+/// writes the answer to `out`, or the line of a refusal to `err`.
 ///
-/// The words are those after the program's name. The threads of a command that runs the test make all their steps on `field`, which is
-/// new by its type, and call `gate` before each iteration. Each call returns.
+/// The words are those after the program's name. The threads of a command that runs the test make all their steps on
+/// `field`, which is new by its type, and call `gate` before each iteration. Each call returns.
 pub fn tool<R: Threads + Sync, S: Source, O: Sink, E: Sink, G: Gate>(
     rt: &R,
     alloc: Global,
@@ -36,7 +28,7 @@ pub fn tool<R: Threads + Sync, S: Source, O: Sink, E: Sink, G: Gate>(
     err: &mut E,
     field: Field,
     gate: &G,
-) -> ToolOutcome
+) -> Outcome<ToolStatus>
     // What was written, and what the threads did on the field.
     ensures whole { WritesWhole (bytes_of words.now) (S.seen source.old) result.done
         (O.seen out.old) (O.seen out.new) result.status }
@@ -66,5 +58,5 @@ pub fn tool<R: Threads + Sync, S: Source, O: Sink, E: Sink, G: Gate>(
     let Answered { text, done } = answer(rt, alloc, words, source, field, gate);
     let status = deliver(&text, out);
     put_line(status.line().bytes(), err);
-    ToolOutcome { status, done }
+    Outcome { status, done }
 }

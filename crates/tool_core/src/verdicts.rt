@@ -18,8 +18,9 @@ use std::fmt::Write;
 use verdict::{Node, Verdict, verdict};
 use x86_subset::Test;
 
+/// A node's thread and place.
 #[tactic(auto, unfolding(crate::specs::Texts::node_text))]
-fn push_node(out: &mut String, node: Node) -> Result<(), NoMemory>
+pub fn push_node(out: &mut String, node: Node) -> Result<(), NoMemory>
     ensures { OnOk result (string_bytes out.new ≡ string_bytes out.old ++ node_text node) }
 {
     let thread = node.thread;
@@ -37,9 +38,9 @@ fn push_nodes(out: &mut String, nodes: &[Node]) -> Result<(), NoMemory>
     Ok(())
 }
 
-// The line of the cycle of a conjunction.
+/// The line of the cycle of a conjunction.
 #[tactic(auto, unfolding(crate::specs::Texts::cycle_line))]
-fn push_cycle(out: &mut String, conjunction: usize, nodes: &[Node]) -> Result<(), NoMemory>
+pub fn push_cycle(out: &mut String, conjunction: usize, nodes: &[Node]) -> Result<(), NoMemory>
     ensures { OnOk result (string_bytes out.new ≡ string_bytes out.old ++ cycle_line conjunction nodes.now) }
 {
     write!(out, "Cycle {conjunction}")?;
@@ -49,7 +50,8 @@ fn push_cycle(out: &mut String, conjunction: usize, nodes: &[Node]) -> Result<()
 }
 
 fn push_cycles(out: &mut String, cycles: &[Vec<Node>]) -> Result<(), NoMemory>
-    ensures { OnOk result (string_bytes out.new ≡ string_bytes out.old ++ cycle_lines 0 (map (λ c. c.items) cycles.now)) }
+    ensures { OnOk result (string_bytes out.new ≡ string_bytes out.old
+        ++ cycle_lines 0 (map (λ c. c.items) cycles.now)) }
 {
     for (i, nodes) in cycles.iter().enumerate() {
         push_cycle(out, i, nodes)?;
@@ -57,9 +59,9 @@ fn push_cycles(out: &mut String, cycles: &[Vec<Node>]) -> Result<(), NoMemory>
     Ok(())
 }
 
-/// The text where each conjunction has a cycle.
+// The text where each conjunction has a cycle.
 #[tactic(auto, unfolding(crate::specs::Texts::forbidden_text))]
-pub fn cycles_text(alloc: Global, cycles: &[Vec<Node>]) -> Result<String, NoMemory>
+fn cycles_text(alloc: Global, cycles: &[Vec<Node>]) -> Result<String, NoMemory>
     ensures { IfOk result (λ text. string_bytes text ≡ forbidden_text (map (λ c. c.items) cycles.now)) }
 {
     let mut out = String::new(alloc);
@@ -85,7 +87,7 @@ fn verdict_text(alloc: Global, verdict: &Verdict) -> Result<String, NoMemory>
     }
 }
 
-// The verdict on a test whose atoms have kinds.
+/// The verdict on a test whose atoms have kinds.
 fn said(alloc: Global, checked: &Checked) -> Result<String, NoMemory>
     ensures { IfOk result (λ text. IsVerdictText checked.now.test (string_bytes text)) }
 {

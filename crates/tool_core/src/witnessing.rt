@@ -1,9 +1,9 @@
 //! The command `witness`: a run of x86-TSO that has the logs of a run in threads.
 ghost use Rattle.std.specs.Prelude.{◌≡◌, ◌≤◌, ◌++◌, ◌⊎◌, codes, IfOk, IfErr, List, None, OnOk, Some, string_bytes};
 ghost use Rattle.std.specs.List.{flat_map};
-ghost use Rattle.seq_conv.specs.Event.{Event};
+ghost use Rattle.tso_machine.specs.Event.{Event};
 ghost use Rattle.seq_conv.specs.Numbers.{AreOf};
-ghost use Rattle.seq_conv.specs.Run.{IsRunOf};
+ghost use Rattle.tso_machine.specs.Run.{IsRunOf};
 ghost use Rattle.report_text.specs.Words.{number_line};
 ghost use Rattle.run_judge.specs.Line.{line_of};
 ghost use Rattle.run_witness.specs.Order.{AreLogsFor, HasLogs, HasWriters};
@@ -12,15 +12,15 @@ ghost use Rattle.tool_core.specs.Due.{due_for_witness};
 ghost use Rattle.tool_core.specs.Status.{HasToolKind};
 ghost use Rattle.run_text.specs.Runs.{run_text_of};
 ghost use Rattle.tool_core.specs.Texts.{IsWitnessed, IsWitnessOf, options_of};
+ghost use Rattle.perp_base.specs.declared.limits.TheConstants.{MOST_ITERATIONS};
 
 use crate::running::options_of;
 use crate::status::ToolStatus;
-use crate::work::Answered;
 use crate::writers::witness_refusal;
 use load_log::Logs;
 use perp_base::NoMemory;
 use perp_loop::Gate;
-use program_edge::{Ran, run_test};
+use program_edge::{Answered, Ran, run_test};
 use report_text::Status;
 use run_judge::{RunEvent, event_line};
 use run_witness::{Found, witness};
@@ -58,7 +58,7 @@ pub fn run_text(alloc: Global, n: u32, events: &[RunEvent]) -> Result<String, No
     Ok(out)
 }
 
-// The text of a run that has the logs; there is such a run.
+/// The text of a run that has the logs; there is such a run.
 fn witness_text(
     alloc: Global,
     test: &Test,
@@ -69,7 +69,7 @@ fn witness_text(
     requires sequences { AreOf test.now sequences.now }
     requires writers { HasWriters test.now }
     requires logs { AreLogsFor test.now n logs.now.logs }
-    requires few { n ≤ 100000 }
+    requires few { n ≤ MOST_ITERATIONS }
     requires logged { (run : List Event) × IsRunOf test.now n run × HasLogs test.now logs.now.logs run }
     ensures { IfOk result (λ text. IsWitnessOf test.now n logs.now.logs (string_bytes text)) }
 {
@@ -80,8 +80,8 @@ fn witness_text(
     }
 }
 
-/// Runs the test in threads on the field, and finds a run that has its logs; or the refusal that is due for the test. All memory that
-/// the run needs is taken before its first step.
+/// Runs the test in threads on the field, and finds a run that has its logs; or the refusal that is due for the test.
+/// All memory that the run needs is taken before its first step.
 pub fn witness_run<R: Threads + Sync, G: Gate>(
     rt: &R,
     alloc: Global,
@@ -89,13 +89,14 @@ pub fn witness_run<R: Threads + Sync, G: Gate>(
     n: u32,
     field: Field,
     gate: &G,
-) -> Answered
+) -> Answered<ToolStatus>
     requires some { 1 ≤ n }
-    requires few { n ≤ 100000 }
+    requires few { n ≤ MOST_ITERATIONS }
     ensures identity { result.done.identity ≡ field }
     ensures none_due { IfOk result.text (λ _. due_for_witness test.now n ≡ None) }
     ensures text { IfOk result.text (λ text. IsWitnessed test.now n result.done (string_bytes text)) }
-    ensures err { IfErr result.text (λ status. (status ≡ ToolStatus.Core Status.Memory) ⊎ (due_for_witness test.now n ≡ Some status)) }
+    ensures err { IfErr result.text (λ status. (status ≡ ToolStatus.Core Status.Memory)
+        ⊎ (due_for_witness test.now n ≡ Some status)) }
     ensures done { IfErr result.text (λ status. IsStill result.done
         ⊎ ((status ≡ ToolStatus.Core Status.Memory) × (due_for_witness test.now n ≡ None) × SomeRunFits test.now (options_of n) result.done)) }
     ensures kind { IfErr result.text HasToolKind }

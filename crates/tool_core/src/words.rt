@@ -23,7 +23,7 @@ pub enum Command {
     Skew(u32),
 }
 
-// The command, where no word follows its name.
+/// The command, where no word follows its name.
 fn alone(words: &[String], command: Command) -> Result<Command, WordsError>
     requires { 0 < length words.now }
     ensures same { IfOk result (λ c. c ≡ command) }
@@ -37,8 +37,8 @@ fn alone(words: &[String], command: Command) -> Result<Command, WordsError>
     }
 }
 
-/// The command that the words name. `Usage` comes exactly where they name none; that memory is refused may come instead of either
-/// answer.
+/// The command that the words name. `Usage` comes exactly where they name none; that memory is refused may come instead
+/// of either answer.
 pub fn read_words(alloc: Global, words: &[String]) -> Result<Command, WordsError>
     ensures ok { IfOk result (λ c. command_of (bytes_of words.now) ≡ Some c) }
     ensures usage { result ≡ Err WordsError.Usage → command_of (bytes_of words.now) ≡ None }

@@ -7,6 +7,7 @@ ghost use Rattle.tool_core.specs.Due.{due_for_test};
 ghost use Rattle.tool_core.specs.Status.{HasToolKind};
 ghost use Rattle.tool_core.specs.Top.{IsText, RanFor};
 ghost use Rattle.tool_core.specs.Words.{HasIterations};
+ghost use Rattle.perp_base.specs.declared.limits.TheConstants.{MOST_ITERATIONS};
 
 use crate::judging::judge_section;
 use crate::ordering::order_section;
@@ -17,33 +18,12 @@ use crate::verdicts::verdict_on;
 use crate::witnessing::witness_run;
 use crate::words::Command;
 use perp_loop::Gate;
-use program_edge::close_unused;
+use program_edge::Answered;
 use run_text::Section;
 use std::alloc::Global;
 use std::thread::Threads;
-use tso_words::{Done, Field};
+use tso_words::Field;
 use x86_subset::Test;
-
-/// A text or a refusal, and the closed field.
-#[derive(Drop)]
-pub struct Answered {
-    pub text: Result<String, ToolStatus>,
-    pub done: Done,
-}
-
-impl Answered {
-    /// Before the first step on the field.
-    pub fn still(text: Result<String, ToolStatus>, field: Field) -> Answered
-        ensures identity { result.done.identity ≡ field }
-        ensures text { result.text ≡ text }
-        ensures still { IsStill result.done }
-    {
-        Answered {
-            text,
-            done: close_unused(field),
-        }
-    }
-}
 
 /// The work of a command on a test and a section; or the refusal that is due for them.
 pub fn work<R: Threads + Sync, G: Gate>(
@@ -54,15 +34,17 @@ pub fn work<R: Threads + Sync, G: Gate>(
     section: &Section<'_>,
     field: Field,
     gate: &G,
-) -> Answered
+) -> Answered<ToolStatus>
     requires within { HasIterations command.now }
-    requires iterations { section.now.iterations ≤ 100000 }
+    requires iterations { section.now.iterations ≤ MOST_ITERATIONS }
     requires line { 1 ≤ section.now.line }
     requires short { section.now.line + length section.now.lines.now < 2 ^ 32 }
     ensures identity { result.done.identity ≡ field }
     ensures none_due { IfOk result.text (λ _. due_for_test command.now test (seen section.now) ≡ None) }
-    ensures right { IfOk result.text (λ text. IsText command.now test (seen section.now) result.done (string_bytes text)) }
-    ensures err { IfErr result.text (λ status. (status ≡ ToolStatus.Core Memory) ⊎ (due_for_test command.now test (seen section.now) ≡ Some status)) }
+    ensures right { IfOk result.text (λ text. IsText command.now test (seen section.now) result.done
+        (string_bytes text)) }
+    ensures err { IfErr result.text (λ status. (status ≡ ToolStatus.Core Memory)
+        ⊎ (due_for_test command.now test (seen section.now) ≡ Some status)) }
     ensures done { IfErr result.text (λ status. IsStill result.done
         ⊎ ((status ≡ ToolStatus.Core Memory) × (due_for_test command.now test (seen section.now) ≡ None) × RanFor command.now test result.done)) }
     ensures kind { IfErr result.text HasToolKind }

@@ -1,8 +1,8 @@
 -- Where a part is cut into turns, and where it is cut between two of them.
 use Rattle.std.proofs.Common.{◌≡◌, ◌∙◌, refl, sym, ap, ℕ, true, false, not, List, [], ◌∷◌, ◌++◌, map, filter, append_assoc, append-nil}
 use Rattle.std.specs.List.{AllByRecursion as Each, AllZip}
-use Rattle.seq_conv.specs.Event.{Event, Kind, Drain, is_drain, is_drain_kind}
-use Rattle.seq_conv.specs.Part.{Fills}
+use Rattle.tso_machine.specs.Event.{Event, Kind, Drain, is_drain, is_drain_kind}
+use Rattle.tso_machine.specs.Part.{Fills}
 use Rattle.tso_runs.specs.Turns.{IsCutBetween, IsTurnBefore, joined, turns_behind, turns_of}
 
 abbrev pub AreDrains : List Event → Type 0
@@ -14,13 +14,14 @@ pub turns_front : (held ds : List Event) (e : Event) (rest : List Event) → Are
 turns_front held [] e rest drains acts = rw acts refl
 turns_front held (d ∷ ds) e rest drains acts =
     rw (drains.0)
-    (turns_front (held ++ d ∷ []) ds e rest drains.1 acts ∙ ap (λ l. l ∷ turns_of rest) (append_assoc held (d ∷ []) (ds ++ e ∷ [])))
+    (turns_front (held ++ d ∷ []) ds e rest drains.1 acts
+    ∙ ap (λ l. l ∷ turns_of rest) (append_assoc held (d ∷ []) (ds ++ e ∷ [])))
 
 pub action_turn : (ds : List Event) (e : Event) (rest : List Event) → AreDrains ds → is_drain e ≡ false
     → IsTurnBefore (ds ++ e ∷ []) rest
 action_turn ds e rest drains acts = ap turns_of (append_assoc ds (e ∷ []) rest) ∙ turns_front [] ds e rest drains acts
 
--- Drains behind which no other event comes are turns by themselves
+-- Drains after which no other event comes are turns by themselves
 abbrev singles : List Event → List (List Event)
 singles es = map (λ e. e ∷ []) es ++ [] ∷ []
 
@@ -46,7 +47,7 @@ pub drains_alone : (t : ℕ) (part : List Event) → AllZip (Fills t) [] (filter
 drains_alone t [] fills = tt
 drains_alone t (e ∷ es) fills = no_slots_cons t e es e.kind refl (drains_alone t es) fills
 
--- A part is cut between two turns at its front, and behind each next turn.
+-- A part is cut between two turns at its front, and after each next turn.
 
 joined-append : (turns : List (List Event)) (turn : List Event) → joined turns ++ turn ≡ joined (turns ++ turn ∷ [])
 joined-append [] turn = sym (append-nil turn)

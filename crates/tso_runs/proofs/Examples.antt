@@ -1,5 +1,5 @@
--- Worked runs of schedules. Each is the only run of its test, options and schedule, by the law. Logs and histories are worked out by
--- hand from the rules.
+-- Worked runs of schedules. Each is the only run of its test, options and schedule, by the law. Logs and histories are
+-- worked out by hand from the rules.
 use Rattle.std.proofs.Common.{◌≡◌, refl, ℕ, zero, suc, ◌+◌, ◌%◌, ◌^◌, ◌<◌, true, false, List, [], ◌∷◌, arith, le-ltb, lt-ltb, ne_eqb, lit<}
 use Rattle.std.proofs.lemmas.Nat.{mod_below}
 use Rattle.std.proofs.lemmas.List.Elements.{All-from_recursion}
@@ -8,16 +8,16 @@ use Rattle.x86_subset.specs.declared.instr.Instr.{Instr}
 use Rattle.x86_subset.specs.declared.instr.Instr.TheVariants as instr
 use Rattle.x86_subset.specs.declared.instr.Reg.TheVariants.{Eax}
 use Rattle.x86_subset.specs.declared.test.Quantifier.TheVariants.{Exists}
-use Rattle.seq_conv.specs.Event.{Event, Kind, Push, Drain, Read}
-use Rattle.seq_conv.specs.Log.{log_of}
-use Rattle.seq_conv.specs.Machine.{after_all, initial}
-use Rattle.seq_conv.specs.Part.{part_of}
+use Rattle.tso_machine.specs.Event.{Event, Kind, Push, Drain, Read}
+use Rattle.tso_machine.specs.Log.{log_of}
+use Rattle.tso_machine.specs.Machine.{after_all, initial}
+use Rattle.tso_machine.specs.Part.{part_of}
 use Rattle.store_buffer.specs.Generator.{asks_drain, generator_word}
 use Rattle.tso_words.specs.declared.step.Step.{Step}
 use Rattle.tso_words.specs.declared.step.Step.TheVariants.{Load, Store}
 use Rattle.tso_words.specs.declared.step.TracedStep.{TracedStep}
-use Rattle.tso_runs.specs.declared.options.Options.{Options}
-use Rattle.tso_runs.specs.declared.schedule.Schedule.TheVariants.{Turns}
+use Rattle.perp_base.specs.declared.options.Options.{Options}
+use Rattle.perp_base.specs.declared.schedule.Schedule.TheVariants.{Turns}
 use Rattle.tso_runs.specs.Fits.{IsLawful}
 use Rattle.tso_runs.specs.Schedule.{IsScheduled}
 use Rattle.tso_runs.specs.SharedSteps.{shared_history, shared_steps}
@@ -29,7 +29,9 @@ never : (seed t j : ℕ) → asks_drain seed t 0 j ≡ false
 never seed t j = le-ltb (generator_word ((seed + t) % 2 ^ 64) j % 256) 0 (omega arith)
 
 always : (seed t j : ℕ) → asks_drain seed t 256 j ≡ true
-always seed t j = lt-ltb (generator_word ((seed + t) % 2 ^ 64) j % 256) 256 (mod_below (generator_word ((seed + t) % 2 ^ 64) j) 256 (lit< tt))
+always seed t j =
+    lt-ltb (generator_word ((seed + t) % 2 ^ 64) j % 256) 256 (mod_below (generator_word ((seed + t) % 2 ^ 64) j) 256
+    (lit< tt))
 
 abbrev codes : List (List Instr) → List Code
 codes [] = []
@@ -56,18 +58,25 @@ relaxed = at 0 0 0 Push ∷ at 1 0 0 Push ∷ at 0 0 1 (Read 0) ∷ at 1 0 1 (Re
 relaxed_drained : (t : ℕ) → (after_all sb initial relaxed).buffer t ≡ []
 relaxed_drained zero = refl
 relaxed_drained (suc zero) = refl
-relaxed_drained (suc (suc t)) = rw (ne_eqb 0 (suc (suc t)) (λ e. omega arith), ne_eqb 1 (suc (suc t)) (λ e. omega arith)) refl
+relaxed_drained (suc (suc t)) =
+    rw (ne_eqb 0 (suc (suc t)) (λ e. omega arith), ne_eqb 1 (suc (suc t)) (λ e. omega arith)) refl
 
 relaxed_lawful : (t : ℕ) → t < 2 → IsLawful sb (options 1 0 8) t (part_of t relaxed)
 relaxed_lawful zero l = record {
   own = All-from_recursion (λ (e : Event). e.thread ≡ 0) (part_of 0 relaxed) (refl, (refl, (refl, tt)));
-  performs = ((record { thread = refl; iteration = refl; place = refl; kind = tt }), (record { thread = refl; iteration = refl; place = refl; kind = tt }, tt));
+  performs = (
+    (record { thread = refl; iteration = refl; place = refl; kind = tt }),
+    (record { thread = refl; iteration = refl; place = refl; kind = tt }, tt),
+  );
   keeps = (tt, (tt, (refl, refl)));
   drained = (rw (never 0 0 0) refl, (rw (never 0 0 1) refl, tt));
 }
 relaxed_lawful (suc zero) l = record {
   own = All-from_recursion (λ (e : Event). e.thread ≡ 1) (part_of 1 relaxed) (refl, (refl, (refl, tt)));
-  performs = ((record { thread = refl; iteration = refl; place = refl; kind = tt }), (record { thread = refl; iteration = refl; place = refl; kind = tt }, tt));
+  performs = (
+    (record { thread = refl; iteration = refl; place = refl; kind = tt }),
+    (record { thread = refl; iteration = refl; place = refl; kind = tt }, tt),
+  );
   keeps = (tt, (tt, (refl, refl)));
   drained = (rw (never 0 1 0) refl, (rw (never 0 1 1) refl, tt));
 }
@@ -76,11 +85,32 @@ relaxed_lawful (suc (suc t)) l = absurd (omega arith)
 relaxed_scheduled : IsScheduled sb (options 1 0 8) Turns relaxed
 relaxed_scheduled = record {
   legal = record { steps = (tt, (tt, (refl, (refl, (refl, (refl, tt)))))); drained = relaxed_drained };
-  threads = All-from_recursion (λ (e : Event). e.thread < 2) relaxed (lit< tt, (lit< tt, (lit< tt, (lit< tt, (lit< tt, (lit< tt, tt))))));
+  threads =
+      All-from_recursion (λ (e : Event). e.thread < 2) relaxed (
+        lit< tt,
+        (lit< tt, (lit< tt, (lit< tt, (lit< tt, (lit< tt, tt))))),
+      );
   lawful = relaxed_lawful;
-  turns = (at 0 0 0 Push ∷ []) ∷ (at 1 0 0 Push ∷ []) ∷ (at 0 0 1 (Read 0) ∷ []) ∷ (at 1 0 1 (Read 0) ∷ []) ∷ (at 0 0 0 Drain ∷ []) ∷ (at 1 0 0 Drain ∷ []) ∷ [] ∷ [] ∷ [];
+  turns =
+      (at 0 0 0 Push ∷ []) ∷ (at 1 0 0 Push ∷ []) ∷ (at 0 0 1 (Read 0) ∷ []) ∷ (at 1 0 1 (Read 0) ∷ [])
+      ∷ (at 0 0 0 Drain ∷ []) ∷ (at 1 0 0 Drain ∷ []) ∷ [] ∷ [] ∷ [];
   whole = refl;
-  follows = (0, refl, refl, (1, refl, refl, (0, refl, refl, (1, refl, refl, (0, refl, refl, (1, refl, refl, (0, refl, refl, (1, refl, refl, refl))))))));
+  follows = (
+    0,
+    refl,
+    refl,
+    (
+      1,
+      refl,
+      refl,
+      (
+        0,
+        refl,
+        refl,
+        (1, refl, refl, (0, refl, refl, (1, refl, refl, (0, refl, refl, (1, refl, refl, refl))))),
+      ),
+    ),
+  );
 }
 
 -- both threads read 0
@@ -97,23 +127,40 @@ drained_twice =
 twice_drained : (t : ℕ) → (after_all sb initial drained_twice).buffer t ≡ []
 twice_drained zero = refl
 twice_drained (suc zero) = refl
-twice_drained (suc (suc t)) = rw (ne_eqb 0 (suc (suc t)) (λ e. omega arith), ne_eqb 1 (suc (suc t)) (λ e. omega arith)) refl
+twice_drained (suc (suc t)) =
+    rw (ne_eqb 0 (suc (suc t)) (λ e. omega arith), ne_eqb 1 (suc (suc t)) (λ e. omega arith)) refl
 
 twice_lawful : (t : ℕ) → t < 2 → IsLawful sb (options 2 256 8) t (part_of t drained_twice)
 twice_lawful zero l = record {
-  own = All-from_recursion (λ (e : Event). e.thread ≡ 0) (part_of 0 drained_twice) (refl, (refl, (refl, (refl, (refl, (refl, tt))))));
+  own =
+      All-from_recursion (λ (e : Event). e.thread ≡ 0) (part_of 0 drained_twice)
+      (refl, (refl, (refl, (refl, (refl, (refl, tt))))));
   performs = (
     record { thread = refl; iteration = refl; place = refl; kind = tt },
-    (record { thread = refl; iteration = refl; place = refl; kind = tt }, (record { thread = refl; iteration = refl; place = refl; kind = tt }, (record { thread = refl; iteration = refl; place = refl; kind = tt }, tt))),
+    (
+      record { thread = refl; iteration = refl; place = refl; kind = tt },
+      (
+        record { thread = refl; iteration = refl; place = refl; kind = tt },
+        (record { thread = refl; iteration = refl; place = refl; kind = tt }, tt),
+      ),
+    ),
   );
   keeps = (tt, (refl, (tt, (tt, (refl, (tt, refl))))));
   drained = (rw (always 0 0 0) refl, (rw (always 0 0 1) refl, (rw (always 0 0 2) refl, (rw (always 0 0 3) refl, tt))));
 }
 twice_lawful (suc zero) l = record {
-  own = All-from_recursion (λ (e : Event). e.thread ≡ 1) (part_of 1 drained_twice) (refl, (refl, (refl, (refl, (refl, (refl, tt))))));
+  own =
+      All-from_recursion (λ (e : Event). e.thread ≡ 1) (part_of 1 drained_twice)
+      (refl, (refl, (refl, (refl, (refl, (refl, tt))))));
   performs = (
     record { thread = refl; iteration = refl; place = refl; kind = tt },
-    (record { thread = refl; iteration = refl; place = refl; kind = tt }, (record { thread = refl; iteration = refl; place = refl; kind = tt }, (record { thread = refl; iteration = refl; place = refl; kind = tt }, tt))),
+    (
+      record { thread = refl; iteration = refl; place = refl; kind = tt },
+      (
+        record { thread = refl; iteration = refl; place = refl; kind = tt },
+        (record { thread = refl; iteration = refl; place = refl; kind = tt }, tt),
+      ),
+    ),
   );
   keeps = (tt, (refl, (tt, (tt, (refl, (tt, refl))))));
   drained = (rw (always 0 1 0) refl, (rw (always 0 1 1) refl, (rw (always 0 1 2) refl, (rw (always 0 1 3) refl, tt))));
@@ -122,21 +169,74 @@ twice_lawful (suc (suc t)) l = absurd (omega arith)
 
 twice_scheduled : IsScheduled sb (options 2 256 8) Turns drained_twice
 twice_scheduled = record {
-  legal = record { steps = (tt, (tt, (refl, (refl, (refl, (refl, (tt, (tt, (refl, (refl, (refl, (refl, tt)))))))))))); drained = twice_drained };
-  threads = All-from_recursion (λ (e : Event). e.thread < 2) drained_twice (lit< tt, (lit< tt, (lit< tt, (lit< tt, (lit< tt, (lit< tt, (lit< tt, (lit< tt, (lit< tt, (lit< tt, (lit< tt, (lit< tt, tt))))))))))));
+  legal =
+      record {
+        steps = (tt, (tt, (refl, (refl, (refl, (refl, (tt, (tt, (refl, (refl, (refl, (refl, tt))))))))))));
+        drained = twice_drained;
+      };
+  threads =
+      All-from_recursion (λ (e : Event). e.thread < 2) drained_twice (
+        lit< tt,
+        (
+          lit< tt,
+          (
+            lit< tt,
+            (
+              lit< tt,
+              (
+                lit< tt,
+                (lit< tt, (lit< tt, (lit< tt, (lit< tt, (lit< tt, (lit< tt, (lit< tt, tt))))))),
+              ),
+            ),
+          ),
+        ),
+      );
   lawful = twice_lawful;
   turns =
-      (at 0 0 0 Push ∷ []) ∷ (at 1 0 0 Push ∷ []) ∷ (at 0 0 0 Drain ∷ at 0 0 1 (Read 0) ∷ []) ∷ (at 1 0 0 Drain ∷ at 1 0 1 (Read 1) ∷ [])
-      ∷ (at 0 1 0 Push ∷ []) ∷ (at 1 1 0 Push ∷ []) ∷ (at 0 1 0 Drain ∷ at 0 1 1 (Read 1) ∷ []) ∷ (at 1 1 0 Drain ∷ at 1 1 1 (Read 2) ∷ []) ∷ [] ∷ [] ∷ [];
+      (at 0 0 0 Push ∷ []) ∷ (at 1 0 0 Push ∷ []) ∷ (at 0 0 0 Drain ∷ at 0 0 1 (Read 0) ∷ [])
+      ∷ (at 1 0 0 Drain ∷ at 1 0 1 (Read 1) ∷ [])
+      ∷ (at 0 1 0 Push ∷ []) ∷ (at 1 1 0 Push ∷ []) ∷ (at 0 1 0 Drain ∷ at 0 1 1 (Read 1) ∷ [])
+      ∷ (at 1 1 0 Drain ∷ at 1 1 1 (Read 2) ∷ []) ∷ [] ∷ [] ∷ [];
   whole = refl;
-  follows = (0, refl, refl, (1, refl, refl, (0, refl, refl, (1, refl, refl, (0, refl, refl, (1, refl, refl, (0, refl, refl, (1, refl, refl, (0, refl, refl, (1, refl, refl, refl))))))))));
+  follows = (
+    0,
+    refl,
+    refl,
+    (
+      1,
+      refl,
+      refl,
+      (
+        0,
+        refl,
+        refl,
+        (
+          1,
+          refl,
+          refl,
+          (
+            0,
+            refl,
+            refl,
+            (
+              1,
+              refl,
+              refl,
+              (0, refl, refl, (1, refl, refl, (0, refl, refl, (1, refl, refl, refl)))),
+            ),
+          ),
+        ),
+      ),
+    ),
+  );
 }
 
 abbrev traced : ℕ → Step → TracedStep
 traced t step = record { thread = t; step = step }
 
 twice_history : shared_history sb initial drained_twice
-    ≡ traced 0 (Store 0 1) ∷ traced 0 (Load 1 0) ∷ traced 1 (Store 1 1) ∷ traced 1 (Load 0 1) ∷ traced 0 (Store 0 2) ∷ traced 0 (Load 1 1) ∷ traced 1 (Store 1 2) ∷ traced 1 (Load 0 2) ∷ []
+    ≡ traced 0 (Store 0 1) ∷ traced 0 (Load 1 0) ∷ traced 1 (Store 1 1) ∷ traced 1 (Load 0 1) ∷ traced 0 (Store 0 2)
+    ∷ traced 0 (Load 1 1) ∷ traced 1 (Store 1 2) ∷ traced 1 (Load 0 2) ∷ []
 twice_history = refl
 
 twice_logs : (log_of 0 drained_twice ≡ 0 ∷ 1 ∷ []) × (log_of 1 drained_twice ≡ 1 ∷ 2 ∷ [])
@@ -155,7 +255,10 @@ short_lawful = record {
   own = All-from_recursion (λ (e : Event). e.thread ≡ 0) short_part (refl, (refl, (refl, (refl, (refl, tt)))));
   performs = (
     record { thread = refl; iteration = refl; place = refl; kind = tt },
-    (record { thread = refl; iteration = refl; place = refl; kind = tt }, (record { thread = refl; iteration = refl; place = refl; kind = tt }, tt)),
+    (
+      record { thread = refl; iteration = refl; place = refl; kind = tt },
+      (record { thread = refl; iteration = refl; place = refl; kind = tt }, tt),
+    ),
   );
   keeps = (tt, (refl, (tt, (tt, (refl, refl)))));
   drained = (rw (never 0 0 0) refl, (rw (never 0 0 1) refl, (rw (never 0 0 2) refl, tt)));
@@ -172,7 +275,10 @@ long_lawful = record {
   own = All-from_recursion (λ (e : Event). e.thread ≡ 0) long_part (refl, (refl, (refl, (refl, (refl, tt)))));
   performs = (
     record { thread = refl; iteration = refl; place = refl; kind = tt },
-    (record { thread = refl; iteration = refl; place = refl; kind = tt }, (record { thread = refl; iteration = refl; place = refl; kind = tt }, tt)),
+    (
+      record { thread = refl; iteration = refl; place = refl; kind = tt },
+      (record { thread = refl; iteration = refl; place = refl; kind = tt }, tt),
+    ),
   );
   keeps = (tt, (tt, (refl, (refl, (refl, refl)))));
   drained = (rw (never 0 0 0) refl, (rw (never 0 0 1) refl, (rw (never 0 0 2) refl, tt)));
@@ -182,5 +288,6 @@ long_steps : shared_steps buf [] long_part ≡ Store 0 1 ∷ Store 1 1 ∷ []
 long_steps = refl
 
 -- its turns
-long_turns : turns_of long_part ≡ (at 0 0 0 Push ∷ []) ∷ (at 0 0 1 Push ∷ []) ∷ (at 0 0 2 (Read 1) ∷ []) ∷ (at 0 0 0 Drain ∷ []) ∷ (at 0 0 1 Drain ∷ []) ∷ [] ∷ []
+long_turns : turns_of long_part ≡ (at 0 0 0 Push ∷ []) ∷ (at 0 0 1 Push ∷ []) ∷ (at 0 0 2 (Read 1) ∷ [])
+    ∷ (at 0 0 0 Drain ∷ []) ∷ (at 0 0 1 Drain ∷ []) ∷ [] ∷ []
 long_turns = refl

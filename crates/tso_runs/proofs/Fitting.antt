@@ -2,8 +2,8 @@
 use Rattle.std.proofs.Common.{◌≡◌, ⊎_elim, ℕ, ◌<◌, ◌≤◌, All, List, [], ◌∷◌, length, refl, sym, ◌∙◌, ap, subst, arith}
 use Rattle.std.proofs.lemmas.Bool.{cases_lt}
 use Rattle.std.proofs.lemmas.List.Elements.{All-head, All-tail}
-use Rattle.seq_conv.specs.Event.{Event}
-use Rattle.seq_conv.specs.Part.{part_of}
+use Rattle.tso_machine.specs.Event.{Event}
+use Rattle.tso_machine.specs.Part.{part_of}
 use Rattle.tso_runs.specs.Fits.{FittingRunsPerformTheBodies, IsLawful}
 use Rattle.tso_runs.specs.Schedule.{ScheduledRunsPerformTheBodies}
 use Rattle.tso_runs.specs.SharedSteps.{shared_steps}
@@ -16,7 +16,8 @@ pub part_of_past : (n t : ℕ) (run : List Event) → All (λ e. e.thread < n) r
 part_of_past n t [] threads past = refl
 part_of_past n t (e ∷ es) threads past =
     let lt : e.thread < n = All-head (λ (e : Event). e.thread < n) e es threads in
-    part_of-other t e es (λ is. omega arith) ∙ part_of_past n t es (All-tail (λ (e : Event). e.thread < n) e es threads) past
+    part_of-other t e es (λ is. omega arith) ∙ part_of_past n t es
+    (All-tail (λ (e : Event). e.thread < n) e es threads) past
 
 pub fitting_runs_make_histories : FittingRunsMakeHistories
 fitting_runs_make_histories test options lists run is_test fits =
@@ -24,7 +25,8 @@ fitting_runs_make_histories test options lists run is_test fits =
       λ t.
           ⊎_elim
           (λ lt. sym (fits.steps t lt) ∙ makes.steps t)
-          (λ past. fits.rest t past ∙ sym (ap (shared_steps test []) (part_of_past (length test.bodies) t run fits.threads past)) ∙ makes.steps t)
+          (λ past. fits.rest t past ∙ sym (ap (shared_steps test []) (part_of_past
+          (length test.bodies) t run fits.threads past)) ∙ makes.steps t)
           (cases_lt t (length test.bodies)),
       makes.flat,
     )
@@ -52,7 +54,15 @@ histories_fit test options lists words history parts flat of_lists lawful rest =
 -- a run that fits, or that a schedule makes, is one of the runs that the laws on values and conditions speak of
 
 pub fitting_run : FittingRunsPerformTheBodies
-fitting_run test options lists run fits = record { legal = fits.legal; performs = λ t l. (fits.lawful t l).performs; threads = fits.threads }
+fitting_run test options lists run fits = record {
+  legal = fits.legal;
+  performs = λ t l. (fits.lawful t l).performs;
+  threads = fits.threads;
+}
 
 pub scheduled_run : ScheduledRunsPerformTheBodies
-scheduled_run test options schedule run h = record { legal = h.legal; performs = λ t l. (h.lawful t l).performs; threads = h.threads }
+scheduled_run test options schedule run h = record {
+  legal = h.legal;
+  performs = λ t l. (h.lawful t l).performs;
+  threads = h.threads;
+}

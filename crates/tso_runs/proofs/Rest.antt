@@ -6,12 +6,12 @@ use Rattle.std.specs.List.{AllZip}
 use Rattle.x86_subset.specs.Test.{LitmusTest}
 use Rattle.x86_subset.specs.declared.instr.Instr.{Instr}
 use Rattle.x86_subset.specs.declared.instr.Instr.TheVariants.{Store as DoStore, Load as DoLoad, Fence, Exchange}
-use Rattle.seq_conv.specs.Event.{Event, Kind, Push, Drain, Read, Fenced, Exchanged, is_drain, is_drain_kind}
-use Rattle.seq_conv.specs.Machine.{Write}
-use Rattle.seq_conv.specs.Part.{Slot, Gives, Fills, KeepsBuffer, own_after}
-use Rattle.seq_conv.proofs.Lists.{each_append}
+use Rattle.tso_machine.specs.Event.{Event, Kind, Push, Drain, Read, Fenced, Exchanged, is_drain, is_drain_kind}
+use Rattle.tso_machine.specs.Machine.{Write}
+use Rattle.tso_machine.specs.Part.{Slot, Gives, Fills, KeepsBuffer, own_after}
+use Rattle.perp_base.proofs.Lists.{each_append}
 use Rattle.store_buffer.specs.Generator.{asks_drain}
-use Rattle.tso_runs.specs.declared.options.Options.{Options}
+use Rattle.perp_base.specs.declared.options.Options.{Options}
 use Rattle.tso_runs.specs.Drained.{kind_as, drains_due, pushed, DrainsWhereDue}
 use Rattle.tso_runs.specs.Turns.{turn_action, turn_drains, turns_behind, turns_of}
 use Rattle.tso_runs.proofs.Cuts.{AreDrains}
@@ -31,15 +31,18 @@ kind_from_gives _ _ g = absurd g
 abbrev pub due_of : Instr → ℕ → Bool → ℕ → ℕ
 due_of action = drains_due (kind_as action 0)
 
-due-kind_as : (action : Instr) (v capacity : ℕ) (asks : Bool) (b : ℕ) → drains_due (kind_as action v) capacity asks b ≡ due_of action capacity asks b
+due-kind_as : (action : Instr) (v capacity : ℕ) (asks : Bool) (b : ℕ)
+    → drains_due (kind_as action v) capacity asks b ≡ due_of action capacity asks b
 due-kind_as (DoStore loc written) v capacity asks b = refl
 due-kind_as (DoLoad reg loc) v capacity asks b = refl
 due-kind_as Fence v capacity asks b = refl
 due-kind_as (Exchange loc written reg) v capacity asks b = refl
 
-pub due-kind : (action : Instr) (k : Kind) → Gives action k → (capacity : ℕ) (asks : Bool) (b : ℕ) → drains_due k capacity asks b ≡ due_of action capacity asks b
+pub due-kind : (action : Instr) (k : Kind) → Gives action k → (capacity : ℕ) (asks : Bool) (b : ℕ)
+    → drains_due k capacity asks b ≡ due_of action capacity asks b
 due-kind action k g capacity asks b =
-    let e = kind_from_gives action k g in ap (λ l. drains_due l capacity asks b) e.1 ∙ due-kind_as action e.0 capacity asks b
+    let e = kind_from_gives action k g in
+    ap (λ l. drains_due l capacity asks b) e.1 ∙ due-kind_as action e.0 capacity asks b
 
 -- an event that is no Drain, and how many Drains stand directly before it
 pub record Counted : Type 0 where
@@ -67,7 +70,8 @@ one_action : (ds : List Event) (e : Event) → AreDrains ds → is_drain e ≡ f
 one_action [] e drains acts = rw acts refl
 one_action (d ∷ ds) e drains acts = rw (drains.0) (one_action ds e drains.1 acts)
 
-count_before : (ds : List Event) (e : Event) → AreDrains ds → is_drain e ≡ false → turn_drains (ds ++ e ∷ []) ≡ length ds
+count_before : (ds : List Event) (e : Event) → AreDrains ds → is_drain e ≡ false
+    → turn_drains (ds ++ e ∷ []) ≡ length ds
 count_before [] e drains acts = rw acts refl
 count_before (d ∷ ds) e drains acts = rw (drains.0) (ap suc (count_before ds e drains.1 acts))
 
@@ -87,7 +91,8 @@ module _ (options : Options) (t : ℕ) where
       rw (one_action ds e drains acts, count_before ds e drains acts)
       ((λ h. (h.0, later.0 h.1)), (λ h. (h.0, later.1 h.1)))
 
-  same_drain : (held : List Event) (d : Event) (es : List Event) (j b : ℕ) → AreDrains held → is_drain d ≡ true → Same es →
+  same_drain : (held : List Event) (d : Event) (es : List Event) (j b : ℕ) → AreDrains held → is_drain d ≡ true
+      → Same es →
       let counted = counted_from (length held + 1) es in
       (DrainsWhereDue options t j b (turns_behind (held ++ d ∷ []) es) → AreDue options t j b counted)
       × (AreDue options t j b counted → DrainsWhereDue options t j b (turns_behind (held ++ d ∷ []) es))
@@ -113,7 +118,8 @@ module _ (options : Options) (t : ℕ) where
       → DrainsWhereDue options t j b (turns_of part)
   from_counted part j b h = (same part [] j b tt).1 h
 
--- the rest of a lawful part: its slots, the own buffer, the number of its next turn, and the Drains of this turn that are done
+-- the rest of a lawful part: its slots, the own buffer, the number of its next turn, and the Drains of this turn that
+-- are done
 pub record IsRest (test : LitmusTest) (options : Options) (t : ℕ) (slots : List Slot) (buffer : List Write) (j d : ℕ) (part : List Event) : Type 0 where
   pub own : All (λ e. e.thread ≡ t) part
   pub fills : AllZip (Fills t) slots (filter (λ e. not (is_drain e)) part)
@@ -123,11 +129,17 @@ pub record IsRest (test : LitmusTest) (options : Options) (t : ℕ) (slots : Lis
 module _ (test : LitmusTest) (options : Options) (t : ℕ) (slots : List Slot) (buffer : List Write) (j : ℕ) (part : List Event) where
   -- a rest whose next turn has not begun, and the rule of the seed
   pub is_rest : All (λ e. e.thread ≡ t) part → AllZip (Fills t) slots (filter (λ e. not (is_drain e)) part)
-      → KeepsBuffer test buffer part → DrainsWhereDue options t j (length buffer) (turns_of part) → IsRest test options t slots buffer j 0 part
+      → KeepsBuffer test buffer part → DrainsWhereDue options t j (length buffer) (turns_of part)
+      → IsRest test options t slots buffer j 0 part
   is_rest own fills keeps drained =
       let long : length buffer ≡ length buffer + 0 = omega arith in
       let due = counted options t part j (length buffer) drained in
-      record { own = own; fills = fills; keeps = keeps; drained = subst (λ b. AreDue options t j b (counted_from 0 part)) long due }
+      record {
+        own = own;
+        fills = fills;
+        keeps = keeps;
+        drained = subst (λ b. AreDue options t j b (counted_from 0 part)) long due;
+      }
 
   pub rest_drained : IsRest test options t slots buffer j 0 part
       → DrainsWhereDue options t j (length buffer) (turns_of part)

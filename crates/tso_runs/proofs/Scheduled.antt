@@ -1,4 +1,5 @@
--- The run of a schedule: in each state the next turn is one, so there is one run, and taking turns until none is left makes it.
+-- The run of a schedule: in each state the next turn is one, so there is one run, and taking turns until none is left
+-- makes it.
 use Rattle.std.proofs.Common.{◌≡◌, ◌∙◌, refl, sym, ap, subst, inl, inr, ⊎_elim, ◌⊎◌, ℕ, zero, suc, ◌+◌, ◌%◌, ◌<◌, ◌≤◌, ◌==◌, Bool, true, false, cond, Option, None, Some, is_some, List, [], ◌∷◌, ◌++◌, length, map, filter, find, drop, slice_get, nat_le, nat_lt, ltb, arith, length-append, lt-ltb, le-ltb, eq-eqb, ne_eqb}
 use Rattle.std.proofs.lemmas.Bool.{cases_eq, cases_lt}
 use Rattle.std.proofs.lemmas.Nat.{mod_below}
@@ -7,15 +8,15 @@ use Rattle.std.proofs.lemmas.List.Elements.{All-from_recursion, filter-append}
 use Rattle.std.specs.List.{AllByRecursion as Each, range_with_len}
 use Rattle.std.specs.Option.{option_or}
 use Rattle.x86_subset.specs.Test.{LitmusTest, body_of}
-use Rattle.seq_conv.specs.Event.{Event, is_drain}
-use Rattle.seq_conv.specs.Machine.{State, Steps, Write, after, after_all, initial, updated}
-use Rattle.seq_conv.specs.Part.{part_of, slots_of_loop}
-use Rattle.seq_conv.proofs.Lists.{each_append, each_both, each_filter, each_passes, each_weaker, filter_all, filter_none, filter_same}
-use Rattle.seq_conv.proofs.Runs.{steps_left, steps_right}
+use Rattle.tso_machine.specs.Event.{Event, is_drain}
+use Rattle.tso_machine.specs.Machine.{State, Steps, Write, after, after_all, initial, updated}
+use Rattle.tso_machine.specs.Part.{part_of, slots_of_loop}
+use Rattle.perp_base.proofs.Lists.{each_append, each_both, each_filter, each_passes, each_weaker, filter_all, filter_none, filter_same}
+use Rattle.tso_machine.proofs.Runs.{steps_left, steps_right}
 use Rattle.store_buffer.specs.Generator.{generator_word}
-use Rattle.tso_runs.specs.declared.options.Options.{Options}
-use Rattle.tso_runs.specs.declared.schedule.Schedule.{Schedule}
-use Rattle.tso_runs.specs.declared.schedule.Schedule.TheVariants.{Turns, Seeded}
+use Rattle.perp_base.specs.declared.options.Options.{Options}
+use Rattle.perp_base.specs.declared.schedule.Schedule.{Schedule}
+use Rattle.perp_base.specs.declared.schedule.Schedule.TheVariants.{Turns, Seeded}
 use Rattle.tso_runs.specs.Schedule.{EachScheduleHasOneRun, Follows, IsScheduled, named, threads_left}
 use Rattle.tso_runs.specs.Turns.{joined, turns_behind, turns_of}
 use Rattle.tso_runs.proofs.Events.{updated-other, updated-same}
@@ -26,7 +27,8 @@ use Rattle.tso_runs.proofs.Turns.{AreOf, Built, Doing, RestAt, buffers_other, bu
 
 -- Which thread is named.
 
-find_step : (P : ℕ → Type 0) (x t : ℕ) (o : Option ℕ) (b : Bool) → P x → (o ≡ Some t → P t) → cond b (Some x) o ≡ Some t → P t
+find_step : (P : ℕ → Type 0) (x t : ℕ) (o : Option ℕ) (b : Bool) → P x → (o ≡ Some t → P t) → cond b (Some x) o ≡ Some t
+    → P t
 find_step P x t o true h f e = let s : x ≡ t = cc in subst P s h
 find_step P x t o false h f e = f e
 
@@ -39,12 +41,15 @@ get_has P [] k t h e = cc
 get_has P (x ∷ xs) zero t h e = let s : x ≡ t = cc in subst P s h.0
 get_has P (x ∷ xs) (suc k) t h e = get_has P xs k t h.1 e
 
-either_has : (P : ℕ → Type 0) (a b : Option ℕ) (t : ℕ) → (a ≡ Some t → P t) → (b ≡ Some t → P t) → option_or a b ≡ Some t → P t
+either_has : (P : ℕ → Type 0) (a b : Option ℕ) (t : ℕ) → (a ≡ Some t → P t) → (b ≡ Some t → P t)
+    → option_or a b ≡ Some t → P t
 either_has P None b t f g h = g h
 either_has P (Some x) b t f g h = f h
 
-pub named_has : (P : ℕ → Type 0) (schedule : Schedule) (i from : ℕ) (ts : List ℕ) (t : ℕ) → Each P ts → named schedule i from ts ≡ Some t → P t
-named_has P Turns i from ts t h e = either_has P (find (nat_le from) ts) (slice_get ts 0) t (find_has P (nat_le from) ts t h) (get_has P ts 0 t h) e
+pub named_has : (P : ℕ → Type 0) (schedule : Schedule) (i from : ℕ) (ts : List ℕ) (t : ℕ) → Each P ts
+    → named schedule i from ts ≡ Some t → P t
+named_has P Turns i from ts t h e =
+    either_has P (find (nat_le from) ts) (slice_get ts 0) t (find_has P (nat_le from) ts t h) (get_has P ts 0 t h) e
 named_has P (Seeded q) i from ts t h e = get_has P ts (generator_word q i % length ts) t h e
 
 get_some : (ts : List ℕ) (k : ℕ) → k < length ts → (t : ℕ) × (slice_get ts k ≡ Some t)
@@ -56,9 +61,12 @@ either_some : (a : Option ℕ) (x : ℕ) → (t : ℕ) × (option_or a (Some x) 
 either_some None x = (x, refl)
 either_some (Some y) x = (y, refl)
 
-pub named_some : (schedule : Schedule) (i from x : ℕ) (xs : List ℕ) → (t : ℕ) × (named schedule i from (x ∷ xs) ≡ Some t)
+pub named_some : (schedule : Schedule) (i from x : ℕ) (xs : List ℕ)
+    → (t : ℕ) × (named schedule i from (x ∷ xs) ≡ Some t)
 named_some Turns i from x xs = either_some (find (nat_le from) (x ∷ xs)) x
-named_some (Seeded q) i from x xs = get_some (x ∷ xs) (generator_word q i % length (x ∷ xs)) (mod_below (generator_word q i) (length (x ∷ xs)) (omega arith))
+named_some (Seeded q) i from x xs =
+    get_some (x ∷ xs) (generator_word q i % length (x ∷ xs)) (mod_below (generator_word q i) (length (x ∷ xs))
+    (omega arith))
 
 pub named_none : (schedule : Schedule) (i from : ℕ) → named schedule i from [] ≡ None
 named_none Turns i from = refl
@@ -68,15 +76,23 @@ named_none (Seeded q) i from = refl
 
 pub range_each : (P : ℕ → Type 0) (a n : ℕ) → ((t : ℕ) → a ≤ t → t < a + n → P t) → Each P (range_with_len a n)
 range_each P a zero f = tt
-range_each P a (suc n) f = (f a (omega arith) (omega arith), range_each P (a + 1) n (λ t l m. f t (omega arith) (omega arith)))
+range_each P a (suc n) f =
+    (f a (omega arith) (omega arith), range_each P (a + 1) n (λ t l m. f t (omega arith) (omega arith)))
 
-long_step : (ls : List (List Event)) (l : List Event) (ks : List (List Event)) (b : Bool) → nat_lt 0 (length ls) ≡ true → nat_lt 0 (length (cond b ls (l ∷ ks))) ≡ true
+long_step : (ls : List (List Event)) (l : List Event) (ks : List (List Event)) (b : Bool) → nat_lt 0 (length ls) ≡ true
+    → nat_lt 0 (length (cond b ls (l ∷ ks))) ≡ true
 long_step ls l ks true h = h
 long_step ls l ks false h = lt-ltb 0 (suc (length ks)) (omega arith)
 
 turns_long : (held part : List Event) → nat_lt 0 (length (turns_behind held part)) ≡ true
-turns_long held [] = lt-ltb 0 (length (map (λ d. d ∷ []) held ++ [] ∷ [])) (omega (arith, length-append (map (λ (d : Event). d ∷ []) held) ([] ∷ [])))
-turns_long held (e ∷ es) = long_step (turns_behind (held ++ e ∷ []) es) (held ++ e ∷ []) (turns_behind [] es) (is_drain e) (turns_long (held ++ e ∷ []) es)
+turns_long held [] =
+    lt-ltb 0 (length (map (λ d. d ∷ []) held ++ [] ∷ [])) (omega (
+      arith,
+      length-append (map (λ (d : Event). d ∷ []) held) ([] ∷ []),
+    ))
+turns_long held (e ∷ es) =
+    long_step (turns_behind (held ++ e ∷ []) es) (held ++ e ∷ []) (turns_behind [] es) (is_drain e)
+    (turns_long (held ++ e ∷ []) es)
 
 left_live : (o : Option Doing) (part : List Event) → nat_lt 0 (length (left_of o part)) ≡ is_some o
 left_live None part = refl
@@ -91,27 +107,34 @@ left_at doing run t = left_of (doing t) (part_of t run)
 threads_live : (n : ℕ) (doing : ℕ → Option Doing) (run : List Event) → threads_left n (left_at doing run) ≡ live n doing
 threads_live n doing run =
     filter_same (λ t. nat_lt 0 (length (left_at doing run t))) (λ t. is_some (doing t)) (range_with_len 0 n)
-    (range_each (λ t. nat_lt 0 (length (left_at doing run t)) ≡ is_some (doing t)) 0 n (λ t a b. left_live (doing t) (part_of t run)))
+    (range_each (λ t. nat_lt 0 (length (left_at doing run t)) ≡ is_some (doing t)) 0 n
+    (λ t a b. left_live (doing t) (part_of t run)))
 
 -- what threads have left matters below their number alone
 
-threads_same : (n : ℕ) (f g : ℕ → List (List Event)) → ((t : ℕ) → t < n → f t ≡ g t) → threads_left n f ≡ threads_left n g
+threads_same : (n : ℕ) (f g : ℕ → List (List Event)) → ((t : ℕ) → t < n → f t ≡ g t)
+    → threads_left n f ≡ threads_left n g
 threads_same n f g h =
     filter_same (λ t. nat_lt 0 (length (f t))) (λ t. nat_lt 0 (length (g t))) (range_with_len 0 n)
-    (range_each (λ t. nat_lt 0 (length (f t)) ≡ nat_lt 0 (length (g t))) 0 n (λ t a b. ap (λ l. nat_lt 0 (length l)) (h t (omega arith))))
+    (range_each (λ t. nat_lt 0 (length (f t)) ≡ nat_lt 0 (length (g t))) 0 n
+    (λ t a b. ap (λ l. nat_lt 0 (length l)) (h t (omega arith))))
 
 pub threads_below : (n : ℕ) (p : ℕ → Bool) → Each (λ t. t < n) (filter p (range_with_len 0 n))
 threads_below n p = each_filter (λ t. t < n) p (range_with_len 0 n) (range_each (λ t. t < n) 0 n (λ t a b. omega arith))
 
-follows_same : (schedule : Schedule) (n i from : ℕ) (f g : ℕ → List (List Event)) (turns : List (List Event)) → ((t : ℕ) → t < n → f t ≡ g t) → Follows schedule n i from f turns → Follows schedule n i from g turns
+follows_same : (schedule : Schedule) (n i from : ℕ) (f g : ℕ → List (List Event)) (turns : List (List Event))
+    → ((t : ℕ) → t < n → f t ≡ g t) → Follows schedule n i from f turns → Follows schedule n i from g turns
 follows_same schedule n i from f g [] h k = sym (threads_same n f g h) ∙ k
 follows_same schedule n i from f g (turn ∷ turns) h k =
     let t = k.0 in
-    let below : t < n = named_has (λ t. t < n) schedule i from (threads_left n f) t (threads_below n (λ t. nat_lt 0 (length (f t)))) k.1 in (
+    let below : t < n =
+    named_has (λ t. t < n) schedule i from (threads_left n f) t
+    (threads_below n (λ t. nat_lt 0 (length (f t)))) k.1 in (
       t,
       ap (named schedule i from) (sym (threads_same n f g h)) ∙ k.1,
       ap (λ l. slice_get l 0) (sym (h t below)) ∙ k.2,
-      follows_same schedule n (i + 1) (t + 1) (updated f t (drop 1 (f t))) (updated g t (drop 1 (g t))) turns (λ u l i. cond (t == u) (drop 1 (h t below i)) (h u l i)) k.3,
+      follows_same schedule n (i + 1) (t + 1) (updated f t (drop 1 (f t))) (updated g t (drop 1 (g t))) turns
+          (λ u l i. cond (t == u) (drop 1 (h t below i)) (h u l i)) k.3,
     )
 
 -- Parts of a run that begins with a turn.
@@ -119,16 +142,23 @@ follows_same schedule n i from f g (turn ∷ turns) h k =
 pub part_own : (t : ℕ) (turn rest : List Event) → AreOf t turn → part_of t (turn ++ rest) ≡ turn ++ part_of t rest
 part_own t turn rest h =
     filter-append (λ (e : Event). e.thread == t) turn rest
-    ∙ ap (λ l. l ++ part_of t rest) (filter_all (λ (e : Event). e.thread == t) turn (each_weaker (λ (e : Event). e.thread ≡ t) (λ (e : Event). (e.thread == t) ≡ true) (λ e k. eq-eqb e.thread t k) turn h))
+    ∙ ap (λ l. l ++ part_of t rest) (filter_all (λ (e : Event). e.thread == t) turn
+    (each_weaker (λ (e : Event). e.thread ≡ t) (λ (e : Event). (e.thread == t) ≡ true)
+    (λ e k. eq-eqb e.thread t k) turn h))
 
-pub part_other : (t u : ℕ) (turn rest : List Event) → AreOf t turn → (t ≡ u → ⊥) → part_of u (turn ++ rest) ≡ part_of u rest
+pub part_other : (t u : ℕ) (turn rest : List Event) → AreOf t turn → (t ≡ u → ⊥)
+    → part_of u (turn ++ rest) ≡ part_of u rest
 part_other t u turn rest h ne =
     filter-append (λ (e : Event). e.thread == u) turn rest
-    ∙ ap (λ l. l ++ part_of u rest) (filter_none (λ (e : Event). e.thread == u) turn (each_weaker (λ (e : Event). e.thread ≡ t) (λ (e : Event). (e.thread == u) ≡ false) (λ e k. ne_eqb e.thread u (λ m. ne (sym k ∙ m))) turn h))
+    ∙ ap (λ l. l ++ part_of u rest) (filter_none (λ (e : Event). e.thread == u) turn
+    (each_weaker (λ (e : Event). e.thread ≡ t) (λ (e : Event). (e.thread == u) ≡ false)
+    (λ e k. ne_eqb e.thread u (λ m. ne (sym k ∙ m))) turn h))
 
 -- what is left behind a turn
-left_behind : (doing : ℕ → Option Doing) (t : ℕ) (d : Doing) (next : Option Doing) (turn rest : List Event) → doing t ≡ Some d → AreOf t turn → turns_of (part_of t (turn ++ rest)) ≡ turn ∷ left_of next (part_of t rest)
-    → (u : ℕ) → updated (left_at doing (turn ++ rest)) t (drop 1 (left_at doing (turn ++ rest) t)) u ≡ left_at (updated doing t next) rest u
+left_behind : (doing : ℕ → Option Doing) (t : ℕ) (d : Doing) (next : Option Doing) (turn rest : List Event)
+    → doing t ≡ Some d → AreOf t turn → turns_of (part_of t (turn ++ rest)) ≡ turn ∷ left_of next (part_of t rest)
+    → (u : ℕ) → updated (left_at doing (turn ++ rest)) t (drop 1 (left_at doing (turn ++ rest) t)) u
+    ≡ left_at (updated doing t next) rest u
 left_behind doing t d next turn rest does own cut u =
     ⊎_elim
     (λ is.
@@ -143,7 +173,8 @@ left_behind doing t d next turn rest does own cut u =
     ∙ ap (λ o. left_of o (part_of u rest)) (sym (updated-other doing t next u isnt)))
     (cases_eq t u)
 
-pub after_all-append : (test : LitmusTest) (s : State) (xs ys : List Event) → after_all test s (xs ++ ys) ≡ after_all test (after_all test s xs) ys
+pub after_all-append : (test : LitmusTest) (s : State) (xs ys : List Event)
+    → after_all test s (xs ++ ys) ≡ after_all test (after_all test s xs) ys
 after_all-append test s [] ys = refl
 after_all-append test s (x ∷ xs) ys = after_all-append test (after test s x) xs ys
 
@@ -173,25 +204,38 @@ module _ (test : LitmusTest) (options : Options) (schedule : Schedule) where
     is : turn ≡ turn_of s thread todo
     later : Continues (after_all test s turn) (updated doing thread (next s thread todo)) (i + 1) (thread + 1) turns
 
-  step_by : (s : State) (doing : ℕ → Option Doing) (i from : ℕ) (turn : List Event) (turns : List (List Event)) (t : ℕ) (o : Option Doing) → doing t ≡ o → Continues s doing i from (turn ∷ turns)
-      → named schedule i from (threads_left threads (left_at doing (turn ++ joined turns))) ≡ Some t → slice_get (left_at doing (turn ++ joined turns) t) 0 ≡ Some turn
-      → Follows schedule threads (i + 1) (t + 1) (updated (left_at doing (turn ++ joined turns)) t (drop 1 (left_at doing (turn ++ joined turns) t))) turns → Step s doing i from turn turns
-  step_by s doing i from turn turns t None does c n g f = let k : None ≡ Some turn = ap (λ o. slice_get (left_of o (part_of t (turn ++ joined turns))) 0) (sym does) ∙ g in cc
+  step_by : (s : State) (doing : ℕ → Option Doing) (i from : ℕ) (turn : List Event) (turns : List (List Event)) (t : ℕ)
+      (o : Option Doing) → doing t ≡ o → Continues s doing i from (turn ∷ turns)
+      → named schedule i from (threads_left threads (left_at doing (turn ++ joined turns))) ≡ Some t
+      → slice_get (left_at doing (turn ++ joined turns) t) 0 ≡ Some turn
+      → Follows schedule threads (i + 1) (t + 1) (updated (left_at doing (turn ++ joined turns)) t
+      (drop 1 (left_at doing (turn ++ joined turns) t))) turns → Step s doing i from turn turns
+  step_by s doing i from turn turns t None does c n g f =
+      let k : None ≡ Some turn = ap (λ o. slice_get (left_of o (part_of t (turn ++ joined turns))) 0) (sym does) ∙ g in
+      cc
   step_by s doing i from turn turns t (Some d) does c n g f =
       let rest = joined turns in
       let part = part_of t (turn ++ rest) in
-      let r : IsRest test options t d.slots (s.buffer t) d.made 0 part = subst (λ o. RestAt test options t o (s.buffer t) part) does (c.rests t) in
+      let r : IsRest test options t d.slots (s.buffer t) d.made 0
+      part = subst (λ o. RestAt test options t o (s.buffer t) part) does (c.rests t) in
       let h = taken test options t s d.slots d.made (s.buffer t) part r in
       let nxt = next s t d in
-      let heads : Some h.turn ≡ Some turn = ap (λ l. slice_get l 0) (sym h.cut) ∙ ap (λ o. slice_get (left_of o part) 0) (sym does) ∙ g in
+      let heads : Some h.turn ≡ Some turn = ap (λ l. slice_get l 0) (sym h.cut)
+      ∙ ap (λ o. slice_get (left_of o part) 0) (sym does) ∙ g in
       let same : h.turn ≡ turn = cc in
       let own : AreOf t turn = subst (AreOf t) same h.own in
-      let left : part_of t rest ≡ h.later = append_cancel_left turn (part_of t rest) h.later (sym (part_own t turn rest own) ∙ h.whole ∙ ap (λ l. l ++ h.later) same) in
-      let cut : turns_of part ≡ turn ∷ left_of nxt (part_of t rest) = h.cut ∙ (λ i. same i ∷ left_of nxt (sym left i)) in
-      let buffer : (after_all test s turn).buffer t ≡ buffer_after test (s.buffer t) h.turn = buffers_own test s t turn own ∙ ap (buffer_after test (s.buffer t)) (sym same) in
+      let left : part_of t rest ≡ h.later = append_cancel_left turn (part_of t rest) h.later
+      (sym (part_own t turn rest own) ∙ h.whole ∙ ap (λ l. l ++ h.later) same) in
+      let cut : turns_of part ≡ turn ∷ left_of nxt (part_of t rest) = h.cut
+      ∙ (λ i. same i ∷ left_of nxt (sym left i)) in
+      let buffer : (after_all test s turn).buffer t
+      ≡ buffer_after test (s.buffer t) h.turn = buffers_own test s t turn own
+      ∙ ap (buffer_after test (s.buffer t)) (sym same) in
       let here : RestAt test options t nxt ((after_all test s turn).buffer t) (part_of t rest) =
-      subst (λ b. RestAt test options t nxt b (part_of t rest)) (sym buffer) (subst (RestAt test options t nxt (buffer_after test (s.buffer t) h.turn)) (sym left) h.rest) in
-      let P : ℕ → Type 0 = λ u. RestAt test options u (updated doing t nxt u) ((after_all test s turn).buffer u) (part_of u rest) in
+      subst (λ b. RestAt test options t nxt b (part_of t rest)) (sym buffer)
+      (subst (RestAt test options t nxt (buffer_after test (s.buffer t) h.turn)) (sym left) h.rest) in
+      let P : ℕ → Type 0 = λ u. RestAt test options u (updated doing t nxt u) ((after_all test s turn).buffer u)
+      (part_of u rest) in
       record {
         thread = t;
         todo = d;
@@ -202,28 +246,38 @@ module _ (test : LitmusTest) (options : Options) (schedule : Schedule) where
           steps = steps_right test s turn rest c.steps;
           rests = λ u.
               ⊎_elim
-              (λ is. subst P is (subst (λ o. RestAt test options t o ((after_all test s turn).buffer t) (part_of t rest)) (sym (updated-same doing t nxt t refl)) here))
+              (λ is. subst P is (subst (λ o. RestAt test options t o ((after_all test s turn).buffer t)
+              (part_of t rest)) (sym (updated-same doing t nxt t refl)) here))
               (λ isnt.
               let Q : Option Doing → List Write → List Event → Type 0 = λ o b p. RestAt test options u o b p in
-              subst (λ o. Q o ((after_all test s turn).buffer u) (part_of u rest)) (sym (updated-other doing t nxt u isnt))
+              subst (λ o. Q o ((after_all test s turn).buffer u) (part_of u rest))
+              (sym (updated-other doing t nxt u isnt))
               (subst (λ b. Q (doing u) b (part_of u rest)) (sym (buffers_other test s t u turn own isnt))
               (subst (λ p. Q (doing u) (s.buffer u) p) (part_other t u turn rest own isnt) (c.rests u))))
               (cases_eq t u);
-          follows = follows_same schedule threads (i + 1) (t + 1) (updated (left_at doing (turn ++ rest)) t (drop 1 (left_at doing (turn ++ rest) t))) (left_at (updated doing t nxt) rest) turns (λ u l. left_behind doing t d nxt turn rest does own cut u) f;
+          follows =
+              follows_same schedule threads (i + 1) (t + 1) (updated (left_at doing (turn ++ rest)) t
+              (drop 1 (left_at doing (turn ++ rest) t))) (left_at (updated doing t nxt) rest) turns
+              (λ u l. left_behind doing t d nxt turn rest does own cut u) f;
         };
       }
 
-  step : (s : State) (doing : ℕ → Option Doing) (i from : ℕ) (turn : List Event) (turns : List (List Event)) → Continues s doing i from (turn ∷ turns) → Step s doing i from turn turns
-  step s doing i from turn turns c = step_by s doing i from turn turns c.follows.0 (doing c.follows.0) refl c c.follows.1 c.follows.2 c.follows.3
+  step : (s : State) (doing : ℕ → Option Doing) (i from : ℕ) (turn : List Event) (turns : List (List Event))
+      → Continues s doing i from (turn ∷ turns) → Step s doing i from turn turns
+  step s doing i from turn turns c =
+      step_by s doing i from turn turns c.follows.0 (doing c.follows.0) refl c c.follows.1 c.follows.2 c.follows.3
 
-  ended_or_not : (s : State) (doing : ℕ → Option Doing) (i from : ℕ) (turn : List Event) (turns : List (List Event)) → Continues s doing i from [] → Continues s doing i from (turn ∷ turns) → ⊥
+  ended_or_not : (s : State) (doing : ℕ → Option Doing) (i from : ℕ) (turn : List Event) (turns : List (List Event))
+      → Continues s doing i from [] → Continues s doing i from (turn ∷ turns) → ⊥
   ended_or_not s doing i from turn turns a b =
       let h = step s doing i from turn turns b in
       let none : live threads doing ≡ [] = sym (threads_live threads doing []) ∙ a.follows in
-      let k : None ≡ Some h.thread = sym (named_none schedule i from) ∙ ap (named schedule i from) (sym none) ∙ h.is_named in
+      let k : None ≡ Some h.thread = sym (named_none schedule i from) ∙ ap (named schedule i from) (sym none)
+      ∙ h.is_named in
       cc
 
-  one_by_one : (turns others : List (List Event)) (s : State) (doing : ℕ → Option Doing) (i from : ℕ) → Continues s doing i from turns → Continues s doing i from others → turns ≡ others
+  one_by_one : (turns others : List (List Event)) (s : State) (doing : ℕ → Option Doing) (i from : ℕ)
+      → Continues s doing i from turns → Continues s doing i from others → turns ≡ others
   one_by_one [] [] s doing i from a b = refl
   one_by_one [] (o ∷ os) s doing i from a b = absurd (ended_or_not s doing i from o os a b)
   one_by_one (t ∷ ts) [] s doing i from a b = absurd (ended_or_not s doing i from t ts b a)
@@ -235,11 +289,16 @@ module _ (test : LitmusTest) (options : Options) (schedule : Schedule) where
       let todos : Some k.todo ≡ Some h.todo = sym k.does ∙ ap doing thread ∙ h.does in
       let todo : k.todo ≡ h.todo = cc in
       let turn : o ≡ t = k.is ∙ (λ i. turn_of s (thread i) (todo i)) ∙ sym h.is in
-      let later : Continues (after_all test s t) (updated doing h.thread (next s h.thread h.todo)) (i + 1) (h.thread + 1) os =
-      subst (λ o. Continues (after_all test s o) (updated doing h.thread (next s h.thread h.todo)) (i + 1) (h.thread + 1) os) turn
-      (subst (λ d. Continues (after_all test s o) (updated doing h.thread (next s h.thread d)) (i + 1) (h.thread + 1) os) todo
-      (subst (λ u. Continues (after_all test s o) (updated doing u (next s u k.todo)) (i + 1) (u + 1) os) thread k.later)) in
-      let rest = one_by_one ts os (after_all test s t) (updated doing h.thread (next s h.thread h.todo)) (i + 1) (h.thread + 1) h.later later in
+      let later : Continues (after_all test s t) (updated doing h.thread (next s h.thread h.todo)) (i + 1)
+      (h.thread + 1) os =
+      subst (λ o. Continues (after_all test s o) (updated doing h.thread (next s h.thread h.todo)) (i + 1)
+      (h.thread + 1) os) turn
+      (subst (λ d. Continues (after_all test s o) (updated doing h.thread (next s h.thread d)) (i + 1)
+      (h.thread + 1) os) todo
+      (subst (λ u. Continues (after_all test s o) (updated doing u (next s u k.todo)) (i + 1) (u + 1) os) thread
+      k.later)) in
+      let rest = one_by_one ts os (after_all test s t) (updated doing h.thread (next s h.thread h.todo)) (i + 1)
+      (h.thread + 1) h.later later in
       λ i. sym turn i ∷ rest i
 
   -- A run.
@@ -257,7 +316,8 @@ module _ (test : LitmusTest) (options : Options) (schedule : Schedule) where
 
   -- nothing is left
 
-  none_step : (p : ℕ → Bool) (a t : ℕ) (ts : List ℕ) (b : Bool) → p a ≡ b → cond b (a ∷ ts) ts ≡ [] → (ts ≡ [] → a < t → p t ≡ false) → (a ≡ t) ⊎ (a < t) → p t ≡ false
+  none_step : (p : ℕ → Bool) (a t : ℕ) (ts : List ℕ) (b : Bool) → p a ≡ b → cond b (a ∷ ts) ts ≡ []
+      → (ts ≡ [] → a < t → p t ≡ false) → (a ≡ t) ⊎ (a < t) → p t ≡ false
   none_step p a t ts true e h rec w = cc
   none_step p a t ts false e h rec (inl is) = subst (λ (u : ℕ). p u ≡ false) is e
   none_step p a t ts false e h rec (inr l) = rec h l
@@ -265,17 +325,21 @@ module _ (test : LitmusTest) (options : Options) (schedule : Schedule) where
   none_pass : (p : ℕ → Bool) (a n t : ℕ) → filter p (range_with_len a n) ≡ [] → a ≤ t → t < a + n → p t ≡ false
   none_pass p a zero t h l m = absurd (omega arith)
   none_pass p a (suc n) t h l m =
-      none_step p a t (filter p (range_with_len (a + 1) n)) (p a) refl h (λ e k. none_pass p (a + 1) n t e (omega arith) (omega arith)) (let w : (a ≡ t) ⊎ (a < t) = grind arith in w)
+      none_step p a t (filter p (range_with_len (a + 1) n)) (p a) refl h
+      (λ e k. none_pass p (a + 1) n t e (omega arith) (omega arith)) (let w : (a ≡ t) ⊎ (a < t) = grind arith in w)
 
   not_some : (o : Option Doing) → is_some o ≡ false → o ≡ None
   not_some None h = refl
   not_some (Some d) h = cc
 
-  pub all_none : (s : State) (doing : ℕ → Option Doing) → IsGood s doing → live threads doing ≡ [] → (t : ℕ) → doing t ≡ None
+  pub all_none : (s : State) (doing : ℕ → Option Doing) → IsGood s doing → live threads doing ≡ [] → (t : ℕ)
+      → doing t ≡ None
   all_none s doing good h t =
-      ⊎_elim (λ l. not_some (doing t) (none_pass (λ t. is_some (doing t)) 0 threads t h (omega arith) (omega arith))) (λ g. good.past t g) (cases_lt t threads)
+      ⊎_elim (λ l. not_some (doing t) (none_pass (λ t. is_some (doing t)) 0 threads t h (omega arith) (omega arith)))
+      (λ g. good.past t g) (cases_lt t threads)
 
-  pub at_end : (s : State) (doing : ℕ → Option Doing) (i from : ℕ) → IsGood s doing → live threads doing ≡ [] → Continues s doing i from [] × Ends s []
+  pub at_end : (s : State) (doing : ℕ → Option Doing) (i from : ℕ) → IsGood s doing → live threads doing ≡ []
+      → Continues s doing i from [] × Ends s []
   at_end s doing i from good h = (
     record {
       steps = tt;
@@ -294,9 +358,11 @@ module _ (test : LitmusTest) (options : Options) (schedule : Schedule) where
   total_same : (n : ℕ) (f g : ℕ → ℕ) → ((u : ℕ) → u < n → f u ≡ g u) → total n f ≡ total n g
   unfolding total
   total_same zero f g h = refl
-  total_same (suc n) f g h = let a = h n (omega arith) in let b = total_same n f g (λ u l. h u (omega arith)) in omega arith
+  total_same (suc n) f g h =
+      let a = h n (omega arith) in let b = total_same n f g (λ u l. h u (omega arith)) in omega arith
 
-  total_falls : (n t : ℕ) (f g : ℕ → ℕ) → t < n → g t < f t → ((u : ℕ) → (t ≡ u → ⊥) → g u ≡ f u) → total n g < total n f
+  total_falls : (n t : ℕ) (f g : ℕ → ℕ) → t < n → g t < f t → ((u : ℕ) → (t ≡ u → ⊥) → g u ≡ f u)
+      → total n g < total n f
   unfolding total
   total_falls zero t f g l less same = absurd (omega arith)
   total_falls (suc n) t f g l less same =
@@ -332,7 +398,8 @@ module _ (test : LitmusTest) (options : Options) (schedule : Schedule) where
     pub buffer_then : then.buffer t ≡ buffer_after test (s.buffer t) turn
     buffer_then = buffers_own test s t turn front.own
 
-    empty_end : (slots : List _) (j : ℕ) (buffer : List Write) → next_by test options t slots j buffer ≡ None → buffer_after test buffer (turn_by test options t s slots j buffer) ≡ []
+    empty_end : (slots : List _) (j : ℕ) (buffer : List Write) → next_by test options t slots j buffer ≡ None
+        → buffer_after test buffer (turn_by test options t s slots j buffer) ≡ []
     empty_end (slot ∷ slots) j buffer h = cc
     empty_end [] j (w ∷ ws) h = cc
     empty_end [] j [] h = refl
@@ -341,13 +408,16 @@ module _ (test : LitmusTest) (options : Options) (schedule : Schedule) where
     good_then = record {
       own = λ u.
           ⊎_elim
-          (λ is. subst (λ u. Each (IsWriteOf test u) (then.buffer u)) is (subst (Each (IsWriteOf test t)) (sym buffer_then) front.kept))
+          (λ is. subst (λ u. Each (IsWriteOf test u) (then.buffer u)) is
+          (subst (Each (IsWriteOf test t)) (sym buffer_then) front.kept))
           (λ isnt. subst (Each (IsWriteOf test u)) (sym (buffers_other test s t u turn front.own isnt)) (good.own u))
           (cases_eq t u);
       ended = λ u h.
           ⊎_elim
-          (λ is. subst (λ u. then.buffer u ≡ []) is (buffer_then ∙ empty_end d.slots d.made (s.buffer t) (sym (updated-same doing t (next s t d) u is) ∙ h)))
-          (λ isnt. buffers_other test s t u turn front.own isnt ∙ good.ended u (sym (updated-other doing t (next s t d) u isnt) ∙ h))
+          (λ is. subst (λ u. then.buffer u ≡ []) is (buffer_then
+          ∙ empty_end d.slots d.made (s.buffer t) (sym (updated-same doing t (next s t d) u is) ∙ h)))
+          (λ isnt. buffers_other test s t u turn front.own isnt
+          ∙ good.ended u (sym (updated-other doing t (next s t d) u isnt) ∙ h))
           (cases_eq t u);
       past = λ u l. updated-other doing t (next s t d) u (λ is. omega (arith, below)) ∙ good.past u l;
     }
@@ -359,9 +429,11 @@ module _ (test : LitmusTest) (options : Options) (schedule : Schedule) where
         let less : g t < f t =
         subst (λ o. weight_of test options t o (then.buffer t) < f t) (sym (updated-same doing t (next s t d) t refl))
         (subst (λ b. weight_of test options t (next s t d) b < f t) (sym buffer_then)
-        (subst (λ o. weight_of test options t (next s t d) (buffer_after test (s.buffer t) turn) < weight_of test options t o (s.buffer t)) (sym does)
+        (subst (λ o. weight_of test options t (next s t d) (buffer_after test (s.buffer t) turn)
+        < weight_of test options t o (s.buffer t)) (sym does)
         (weight_falls test options t s d.slots d.made (s.buffer t)))) in
-        total_falls threads t f g below less (λ u isnt. λ i. weight_of test options u (updated-other doing t (next s t d) u isnt i) (buffers_other test s t u turn front.own isnt i))
+        total_falls threads t f g below less (λ u isnt. λ i. weight_of test options u
+        (updated-other doing t (next s t d) u isnt i) (buffers_other test s t u turn front.own isnt i))
 
     module _ (i from : ℕ) (is_named : named schedule i from (live threads doing) ≡ Some t) (turns : List (List Event)) (later : Continues then after_turn (i + 1) (t + 1) turns) (ends : Ends then turns) where
       abbrev rest : List Event
@@ -370,7 +442,8 @@ module _ (test : LitmusTest) (options : Options) (schedule : Schedule) where
       rest_here : RestAt test options t (next s t d) (buffer_after test (s.buffer t) turn) (part_of t rest)
       rest_here =
           subst (λ b. RestAt test options t (next s t d) b (part_of t rest)) buffer_then
-          (subst (λ o. RestAt test options t o (then.buffer t) (part_of t rest)) (updated-same doing t (next s t d) t refl) (later.rests t))
+          (subst (λ o. RestAt test options t o (then.buffer t) (part_of t rest))
+          (updated-same doing t (next s t d) t refl) (later.rests t))
 
       cut_here : turns_of (part_of t (turn ++ rest)) ≡ turn ∷ left_of (next s t d) (part_of t rest)
       cut_here = ap turns_of (part_own t turn rest front.own) ∙ front.cut (part_of t rest) rest_here
@@ -383,17 +456,22 @@ module _ (test : LitmusTest) (options : Options) (schedule : Schedule) where
             (λ is.
             subst (λ u. RestAt test options u (doing u) (s.buffer u) (part_of u (turn ++ rest))) is
             (subst (λ o. RestAt test options t o (s.buffer t) (part_of t (turn ++ rest))) (sym does)
-            (subst (λ p. IsRest test options t d.slots (s.buffer t) d.made 0 p) (sym (part_own t turn rest front.own)) (front.back (part_of t rest) rest_here))))
+            (subst (λ p. IsRest test options t d.slots (s.buffer t) d.made 0 p) (sym (part_own t turn rest front.own))
+            (front.back (part_of t rest) rest_here))))
             (λ isnt.
-            subst (λ o. RestAt test options u o (s.buffer u) (part_of u (turn ++ rest))) (updated-other doing t (next s t d) u isnt)
-            (subst (λ b. RestAt test options u (after_turn u) b (part_of u (turn ++ rest))) (buffers_other test s t u turn front.own isnt)
-            (subst (λ p. RestAt test options u (after_turn u) (then.buffer u) p) (sym (part_other t u turn rest front.own isnt)) (later.rests u))))
+            subst (λ o. RestAt test options u o (s.buffer u) (part_of u (turn ++ rest)))
+            (updated-other doing t (next s t d) u isnt)
+            (subst (λ b. RestAt test options u (after_turn u) b (part_of u (turn ++ rest)))
+            (buffers_other test s t u turn front.own isnt)
+            (subst (λ p. RestAt test options u (after_turn u) (then.buffer u) p)
+            (sym (part_other t u turn rest front.own isnt)) (later.rests u))))
             (cases_eq t u);
         follows = (
           t,
           ap (named schedule i from) (threads_live threads doing (turn ++ rest)) ∙ is_named,
           ap (λ o. slice_get (left_of o (part_of t (turn ++ rest))) 0) does ∙ ap (λ l. slice_get l 0) cut_here,
-          follows_same schedule threads (i + 1) (t + 1) (left_at after_turn rest) (updated (left_at doing (turn ++ rest)) t (drop 1 (left_at doing (turn ++ rest) t))) turns
+          follows_same schedule threads (i + 1) (t + 1) (left_at after_turn rest)
+              (updated (left_at doing (turn ++ rest)) t (drop 1 (left_at doing (turn ++ rest) t))) turns
               (λ u l. sym (left_behind doing t d (next s t d) turn rest does front.own cut_here u)) later.follows,
         );
       }
@@ -401,12 +479,17 @@ module _ (test : LitmusTest) (options : Options) (schedule : Schedule) where
       pub ends_here : Ends s (turn ∷ turns)
       ends_here = record {
         drained = λ u. ap (λ z. z.buffer u) (after_all-append test s turn rest) ∙ ends.drained u;
-        within = each_append (λ e. e.thread < threads) turn rest (each_weaker (λ e. e.thread ≡ t) (λ e. e.thread < threads) (λ e k. omega (arith, k, below)) turn front.own) ends.within;
+        within =
+            each_append (λ e. e.thread < threads) turn rest (each_weaker (λ e. e.thread ≡ t) (λ e. e.thread < threads)
+            (λ e k. omega (arith, k, below)) turn front.own) ends.within;
       }
 
-  pub live_has : (doing : ℕ → Option Doing) → Each (λ t. (t < threads) × (is_some (doing t) ≡ true)) (live threads doing)
+  pub live_has : (doing : ℕ → Option Doing) → Each (λ t. (t < threads) × (is_some (doing t) ≡ true))
+      (live threads doing)
   live_has doing =
-      each_both (λ t. t < threads) (λ t. is_some (doing t) ≡ true) (live threads doing) (threads_below threads (λ t. is_some (doing t))) (each_passes (λ t. is_some (doing t)) (range_with_len 0 threads))
+      each_both (λ t. t < threads) (λ t. is_some (doing t) ≡ true) (live threads doing)
+      (threads_below threads (λ t. is_some (doing t))) (each_passes (λ t. is_some (doing t))
+      (range_with_len 0 threads))
 
   some_of : (o : Option Doing) → is_some o ≡ true → (d : Doing) × (o ≡ Some d)
   some_of None h = cc
@@ -415,32 +498,41 @@ module _ (test : LitmusTest) (options : Options) (schedule : Schedule) where
   abbrev pub Goes : State → (ℕ → Option Doing) → ℕ → ℕ → Type 0
   Goes s doing i from = (turns : List (List Event)) × Continues s doing i from turns × Ends s turns
 
-  go_on : (s : State) (doing : ℕ → Option Doing) (i from : ℕ) (ts : List ℕ) → 1 ≤ options.buffer → IsGood s doing → live threads doing ≡ ts
-      → ((s' : State) (doing' : ℕ → Option Doing) (i' from' : ℕ) → left_over s' doing' < left_over s doing → IsGood s' doing' → Goes s' doing' i' from') → Goes s doing i from
+  go_on : (s : State) (doing : ℕ → Option Doing) (i from : ℕ) (ts : List ℕ) → 1 ≤ options.buffer → IsGood s doing
+      → live threads doing ≡ ts
+      → ((s' : State) (doing' : ℕ → Option Doing) (i' from' : ℕ) → left_over s' doing' < left_over s doing
+      → IsGood s' doing' → Goes s' doing' i' from') → Goes s doing i from
   go_on s doing i from [] one good h rec = let e = at_end s doing i from good h in ([], e.0, e.1)
   go_on s doing i from (x ∷ xs) one good h rec =
       let n = named_some schedule i from x xs in
       let t = n.0 in
       let is_named : named schedule i from (live threads doing) ≡ Some t = ap (named schedule i from) h ∙ n.1 in
-      let has = named_has (λ t. (t < threads) × (is_some (doing t) ≡ true)) schedule i from (live threads doing) t (live_has doing) is_named in
+      let has = named_has (λ t. (t < threads) × (is_some (doing t) ≡ true)) schedule i from (live threads doing) t
+      (live_has doing) is_named in
       let d = some_of (doing t) has.1 in
-      let later = rec (then one s doing good t d.0 has.0 d.1) (after_turn one s doing good t d.0 has.0 d.1) (i + 1) (t + 1) (falls one s doing good t d.0 has.0 d.1) (good_then one s doing good t d.0 has.0 d.1) in (
+      let later =
+      rec (then one s doing good t d.0 has.0 d.1) (after_turn one s doing good t d.0 has.0 d.1) (i + 1) (t + 1)
+      (falls one s doing good t d.0 has.0 d.1) (good_then one s doing good t d.0 has.0 d.1) in (
         turn_of s t d.0 ∷ later.0,
         continues one s doing good t d.0 has.0 d.1 i from is_named later.0 later.1 later.2,
         ends_here one s doing good t d.0 has.0 d.1 i from is_named later.0 later.1 later.2,
       )
 
-  goes : (fuel : ℕ) (s : State) (doing : ℕ → Option Doing) (i from : ℕ) → left_over s doing < fuel → 1 ≤ options.buffer → IsGood s doing → Goes s doing i from
+  goes : (fuel : ℕ) (s : State) (doing : ℕ → Option Doing) (i from : ℕ) → left_over s doing < fuel → 1 ≤ options.buffer
+      → IsGood s doing → Goes s doing i from
   goes zero s doing i from l one good = absurd (omega arith)
   goes (suc fuel) s doing i from l one good =
-      go_on s doing i from (live threads doing) one good refl (λ s' doing' i' from' less good'. goes fuel s' doing' i' from' (omega arith) one good')
+      go_on s doing i from (live threads doing) one good refl (λ s' doing' i' from' less good'. goes fuel s' doing' i'
+      from' (omega arith) one good')
 
   -- From the start.
 
   abbrev pub start : ℕ → Option Doing
-  start t = cond (ltb t threads) (Some (record { slots = slots_of_loop (body_of test t) options.iterations; made = 0 })) None
+  start t =
+      cond (ltb t threads) (Some (record { slots = slots_of_loop (body_of test t) options.iterations; made = 0 })) None
 
-  pub started : (t : ℕ) → t < threads → start t ≡ Some (record { slots = slots_of_loop (body_of test t) options.iterations; made = 0 })
+  pub started : (t : ℕ) → t < threads → start t
+      ≡ Some (record { slots = slots_of_loop (body_of test t) options.iterations; made = 0 })
   started t l = rw (lt-ltb t threads l) refl
 
   not_started : (t : ℕ) → threads ≤ t → start t ≡ None
@@ -453,7 +545,8 @@ module _ (test : LitmusTest) (options : Options) (schedule : Schedule) where
   from_start run t l = ap (λ o. left_of o (part_of t run)) (started t l)
 
   -- turns that lead from the start to the end make a run of the schedule
-  pub scheduled_by : (turns : List (List Event)) → Continues initial start 0 0 turns → Ends initial turns → IsScheduled test options schedule (joined turns)
+  pub scheduled_by : (turns : List (List Event)) → Continues initial start 0 0 turns → Ends initial turns
+      → IsScheduled test options schedule (joined turns)
   scheduled_by turns c e =
       let run = joined turns in
       record {
@@ -461,11 +554,19 @@ module _ (test : LitmusTest) (options : Options) (schedule : Schedule) where
         threads = All-from_recursion (λ (e : Event). e.thread < threads) run e.within;
         lawful = λ t l.
             let slots = slots_of_loop (body_of test t) options.iterations in
-            let r : IsRest test options t slots [] 0 0 (part_of t run) = subst (λ o. RestAt test options t o [] (part_of t run)) (started t l) (c.rests t) in
-            record { own = r.own; performs = r.fills; keeps = r.keeps; drained = rest_drained test options t slots [] 0 (part_of t run) r };
+            let r : IsRest test options t slots [] 0 0 (part_of t run) = subst (λ o. RestAt test options t o []
+            (part_of t run)) (started t l) (c.rests t) in
+            record {
+              own = r.own;
+              performs = r.fills;
+              keeps = r.keeps;
+              drained = rest_drained test options t slots [] 0 (part_of t run) r;
+            };
         turns = turns;
         whole = refl;
-        follows = follows_same schedule threads 0 0 (left_at start run) (λ t. turns_of (part_of t run)) turns (from_start run) c.follows;
+        follows =
+            follows_same schedule threads 0 0 (left_at start run) (λ t. turns_of (part_of t run)) turns
+            (from_start run) c.follows;
       }
 
   some_run : 1 ≤ options.buffer → (run : List Event) × IsScheduled test options schedule run
@@ -482,18 +583,24 @@ module _ (test : LitmusTest) (options : Options) (schedule : Schedule) where
         let w = h.lawful t l in
         let slots = slots_of_loop (body_of test t) options.iterations in
         let r = is_rest test options t slots [] 0 (part_of t run) w.own w.performs w.keeps w.drained in
-        subst (λ run. RestAt test options t (start t) [] (part_of t run)) h.whole (subst (λ o. RestAt test options t o [] (part_of t run)) (sym (started t l)) r))
-        (λ g. subst (λ o. RestAt test options t o [] (part_of t (joined h.turns))) (sym (not_started t g)) (ap (part_of t) (sym h.whole) ∙ part_of_past threads t run h.threads g))
+        subst (λ run. RestAt test options t (start t) [] (part_of t run)) h.whole
+        (subst (λ o. RestAt test options t o [] (part_of t run)) (sym (started t l)) r))
+        (λ g. subst (λ o. RestAt test options t o [] (part_of t (joined h.turns))) (sym (not_started t g))
+        (ap (part_of t) (sym h.whole) ∙ part_of_past threads t run h.threads g))
         (cases_lt t threads);
-    follows = follows_same schedule threads 0 0 (λ t. turns_of (part_of t run)) (left_at start (joined h.turns)) h.turns (λ t l. ap (λ run. turns_of (part_of t run)) h.whole ∙ sym (from_start (joined h.turns) t l)) h.follows;
+    follows =
+        follows_same schedule threads 0 0 (λ t. turns_of (part_of t run)) (left_at start (joined h.turns)) h.turns
+        (λ t l. ap (λ run. turns_of (part_of t run)) h.whole ∙ sym (from_start (joined h.turns) t l)) h.follows;
   }
 
-  pub one_run : 1 ≤ options.buffer → (run : List Event) × IsScheduled test options schedule run × ((other : List Event) → IsScheduled test options schedule other → other ≡ run)
+  pub one_run : 1 ≤ options.buffer → (run : List Event) × IsScheduled test options schedule run
+      × ((other : List Event) → IsScheduled test options schedule other → other ≡ run)
   one_run one =
       let r = some_run one in (
         r.0,
         r.1,
-        λ other h. h.whole ∙ ap joined (one_by_one h.turns r.1.turns initial start 0 0 (goes_from_start other h) (goes_from_start r.0 r.1)) ∙ sym r.1.whole,
+        λ other h. h.whole ∙ ap joined (one_by_one h.turns r.1.turns initial start 0 0 (goes_from_start other h)
+            (goes_from_start r.0 r.1)) ∙ sym r.1.whole,
       )
 
 pub each_schedule_has_one_run : EachScheduleHasOneRun

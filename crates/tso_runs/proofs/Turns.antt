@@ -5,13 +5,13 @@ use Rattle.std.proofs.lemmas.List.Elements.{All-nil, All-cons}
 use Rattle.x86_subset.specs.Test.{LitmusTest}
 use Rattle.x86_subset.specs.declared.instr.Instr.{Instr}
 use Rattle.x86_subset.specs.declared.instr.Instr.TheVariants.{Store, Load, Fence, Exchange}
-use Rattle.seq_conv.specs.Event.{Event, Kind, Push, Drain, Read, Fenced, Exchanged, event_location, is_drain, is_drain_kind}
-use Rattle.seq_conv.specs.Machine.{State, Write, Needs, Steps, after, after_all, readable, write_of}
-use Rattle.seq_conv.specs.Part.{Slot, Gives, Fills, Agrees, own_after}
-use Rattle.seq_conv.proofs.Lists.{each_append}
-use Rattle.seq_conv.proofs.Runs.{steps_right}
+use Rattle.tso_machine.specs.Event.{Event, Kind, Push, Drain, Read, Fenced, Exchanged, event_location, is_drain, is_drain_kind}
+use Rattle.tso_machine.specs.Machine.{State, Write, Needs, Steps, after, after_all, readable, write_of}
+use Rattle.tso_machine.specs.Part.{Slot, Gives, Fills, Agrees, own_after}
+use Rattle.perp_base.proofs.Lists.{each_append}
+use Rattle.tso_machine.proofs.Runs.{steps_right}
 use Rattle.store_buffer.specs.Generator.{asks_drain}
-use Rattle.tso_runs.specs.declared.options.Options.{Options}
+use Rattle.perp_base.specs.declared.options.Options.{Options}
 use Rattle.tso_runs.specs.Drained.{kind_as, drain_asked, drains_due, pushed}
 use Rattle.tso_runs.specs.Own.{IsWriteOf, buffer_after, drain_event}
 use Rattle.tso_runs.specs.Turns.{turns_of}
@@ -25,13 +25,22 @@ use Rattle.tso_runs.proofs.Rest.{AreDue, IsRest, counted_from, due-kind, due_of,
 abbrev pub AreOf : ℕ → List Event → Type 0
 AreOf t es = Each (λ e. e.thread ≡ t) es
 
-pub buffers_own : (test : LitmusTest) (s : State) (t : ℕ) (es : List Event) → AreOf t es → (after_all test s es).buffer t ≡ buffer_after test (s.buffer t) es
+pub buffers_own : (test : LitmusTest) (s : State) (t : ℕ) (es : List Event) → AreOf t es
+    → (after_all test s es).buffer t ≡ buffer_after test (s.buffer t) es
 buffers_own test s t [] h = refl
-buffers_own test s t (e ∷ es) h = buffers_own test (after test s e) t es h.1 ∙ ap (λ b. buffer_after test b es) (buffer_own test s e t h.0)
+buffers_own test s t (e ∷ es) h =
+    buffers_own test (after test s e) t es h.1 ∙ ap (λ b. buffer_after test b es) (buffer_own test s e t h.0)
 
-pub buffers_other : (test : LitmusTest) (s : State) (t u : ℕ) (es : List Event) → AreOf t es → (t ≡ u → ⊥) → (after_all test s es).buffer u ≡ s.buffer u
+pub buffer_after-append : (test : LitmusTest) (buffer : List Write) (xs ys : List Event)
+    → buffer_after test buffer (xs ++ ys) ≡ buffer_after test (buffer_after test buffer xs) ys
+buffer_after-append test buffer [] ys = refl
+buffer_after-append test buffer (x ∷ xs) ys = buffer_after-append test (own_after test buffer x) xs ys
+
+pub buffers_other : (test : LitmusTest) (s : State) (t u : ℕ) (es : List Event) → AreOf t es → (t ≡ u → ⊥)
+    → (after_all test s es).buffer u ≡ s.buffer u
 buffers_other test s t u [] h ne = refl
-buffers_other test s t u (e ∷ es) h ne = buffers_other test (after test s e) t u es h.1 ne ∙ buffer_other test s e u (λ k. ne (sym h.0 ∙ k))
+buffers_other test s t u (e ∷ es) h ne =
+    buffers_other test (after test s e) t u es h.1 ne ∙ buffer_other test s e u (λ k. ne (sym h.0 ∙ k))
 
 -- How many Drains are due.
 
@@ -48,7 +57,8 @@ full_few d b capacity true one h l = let e : b - d ≡ capacity = eqb-true (b - 
 full_few d b capacity false one h l = omega arith
 
 pub due_few : (action : Instr) (capacity : ℕ) (asks : Bool) (b : ℕ) → 1 ≤ capacity → due_of action capacity asks b ≤ b
-due_few (Store loc written) capacity asks b one = full_few (drain_asked asks b) b capacity (b - drain_asked asks b == capacity) one refl (asked_few asks b)
+due_few (Store loc written) capacity asks b one =
+    full_few (drain_asked asks b) b capacity (b - drain_asked asks b == capacity) one refl (asked_few asks b)
 due_few (Load reg loc) capacity asks b one = asked_few asks b
 due_few Fence capacity asks b one = omega arith
 due_few (Exchange loc written reg) capacity asks b one = omega arith
@@ -75,7 +85,8 @@ value_now (Exchange loc written reg) s t x = s.memory x
 
 abbrev pub event_now : LitmusTest → State → ℕ → Slot → Event
 event_now test s t slot =
-    event t slot.iteration slot.place (kind_as slot.action (value_now slot.action s t (event_location test (event t slot.iteration slot.place Fenced))))
+    event t slot.iteration slot.place (kind_as slot.action (value_now slot.action s t
+    (event_location test (event t slot.iteration slot.place Fenced))))
 
 pub gives_kind : (action : Instr) (v : ℕ) → Gives action (kind_as action v)
 gives_kind (Store loc written) v = tt
@@ -83,21 +94,31 @@ gives_kind (Load reg loc) v = tt
 gives_kind Fence v = tt
 gives_kind (Exchange loc written reg) v = tt
 
-needs_kind : (test : LitmusTest) (s : State) (t n p : ℕ) (action : Instr) (v : ℕ) → Needs test s (event t n p (kind_as action v)) → kind_as action v ≡ kind_as action (value_now action s t (event_location test (event t n p Fenced)))
+needs_kind : (test : LitmusTest) (s : State) (t n p : ℕ) (action : Instr) (v : ℕ)
+    → Needs test s (event t n p (kind_as action v))
+    → kind_as action v ≡ kind_as action (value_now action s t (event_location test (event t n p Fenced)))
 needs_kind test s t n p (Store loc written) v h = refl
 needs_kind test s t n p (Load reg loc) v h = ap (λ v. Read v) h
 needs_kind test s t n p Fence v h = refl
 needs_kind test s t n p (Exchange loc written reg) v h = ap (λ v. Exchanged v) h.1
 
 -- an event that fills a slot and can come is the one of the state
-is_now : (test : LitmusTest) (s : State) (t : ℕ) (slot : Slot) (e : Event) → Fills t slot e → Needs test s e → e ≡ event_now test s t slot
+is_now : (test : LitmusTest) (s : State) (t : ℕ) (slot : Slot) (e : Event) → Fills t slot e → Needs test s e
+    → e ≡ event_now test s t slot
 is_now test s t slot e f h =
     let g = kind_from_gives slot.action e.kind f.kind in
-    let same : e ≡ event t slot.iteration slot.place (kind_as slot.action g.0) = λ i. record { thread = f.thread i; iteration = f.iteration i; place = f.place i; kind = g.1 i } in
-    same ∙ ap (event t slot.iteration slot.place) (needs_kind test s t slot.iteration slot.place slot.action g.0 (subst (Needs test s) same h))
+    let same : e ≡ event t slot.iteration slot.place (kind_as slot.action g.0) = λ i. record {
+      thread = f.thread i;
+      iteration = f.iteration i;
+      place = f.place i;
+      kind = g.1 i;
+    } in
+    same ∙ ap (event t slot.iteration slot.place) (needs_kind test s t slot.iteration slot.place slot.action g.0
+    (subst (Needs test s) same h))
 
--- a fence and an exchange find the buffer empty behind their Drains, so the event can come
-can_come : (test : LitmusTest) (s : State) (t n p : ℕ) (action : Instr) (capacity : ℕ) (asks : Bool) (buffer : List Write) → s.buffer t ≡ drop (due_of action capacity asks (length buffer)) buffer
+-- a fence and an exchange find the buffer empty after their Drains, so the event can come
+can_come : (test : LitmusTest) (s : State) (t n p : ℕ) (action : Instr) (capacity : ℕ) (asks : Bool)
+    (buffer : List Write) → s.buffer t ≡ drop (due_of action capacity asks (length buffer)) buffer
     → Needs test s (event t n p (kind_as action (value_now action s t (event_location test (event t n p Fenced)))))
 can_come test s t n p (Store loc written) capacity asks buffer h = tt
 can_come test s t n p (Load reg loc) capacity asks buffer h = refl
@@ -114,17 +135,27 @@ are_drains t zero buffer = tt
 are_drains t (suc n) [] = tt
 are_drains t (suc n) (w ∷ ws) = (refl, are_drains t n ws)
 
-pub own_drains : (test : LitmusTest) (t n : ℕ) (buffer : List Write) → buffer_after test buffer (drains_of t n buffer) ≡ drop n buffer
+pub own_drains : (test : LitmusTest) (t n : ℕ) (buffer : List Write)
+    → buffer_after test buffer (drains_of t n buffer) ≡ drop n buffer
 own_drains test t zero buffer = refl
 own_drains test t (suc n) [] = refl
 own_drains test t (suc n) (w ∷ ws) = own_drains test t n ws
 
-drains_come : (test : LitmusTest) (s : State) (t n : ℕ) (buffer : List Write) → s.buffer t ≡ buffer → Each (IsWriteOf test t) buffer → Steps test s (drains_of t n buffer)
+-- and what comes after them
+pub after_drains : (test : LitmusTest) (t n : ℕ) (buffer : List Write) (es : List Event)
+    → buffer_after test buffer (drains_of t n buffer ++ es) ≡ buffer_after test (drop n buffer) es
+after_drains test t n buffer es =
+    buffer_after-append test buffer (drains_of t n buffer) es
+    ∙ ap (λ b. buffer_after test b es) (own_drains test t n buffer)
+
+drains_come : (test : LitmusTest) (s : State) (t n : ℕ) (buffer : List Write) → s.buffer t ≡ buffer
+    → Each (IsWriteOf test t) buffer → Steps test s (drains_of t n buffer)
 drains_come test s t zero buffer h own = tt
 drains_come test s t (suc n) [] h own = tt
 drains_come test s t (suc n) (w ∷ ws) h own = (
   ap (λ b. slice_get b 0) h ∙ ap (λ w. Some w) (sym own.0),
-  drains_come test (after test s (drain_event t w)) t n ws (buffer_own test s (drain_event t w) t refl ∙ ap (drop 1) h) own.1,
+  drains_come test (after test s (drain_event t w)) t n ws (buffer_own test s (drain_event t w) t refl ∙ ap (drop 1) h)
+      own.1,
 )
 
 pub all_drain : (t n : ℕ) (buffer : List Write) → AreDrains (drains_of t n buffer)
@@ -147,14 +178,17 @@ module _ (test : LitmusTest) (options : Options) (t : ℕ) where
     pub fills : Fills t slot here
     pub rest : Rest slots (own_after test (drop count buffer) here) (j + 1) 0 later
 
-  split_drain : (slot : Slot) (slots : List Slot) (buffer : List Write) (j d : ℕ) (s n p : ℕ) (es : List Event) → Drains test options t (slot ∷ slots) buffer j d (event s n p Drain) es
+  split_drain : (slot : Slot) (slots : List Slot) (buffer : List Write) (j d : ℕ) (s n p : ℕ) (es : List Event)
+      → Drains test options t (slot ∷ slots) buffer j d (event s n p Drain) es
       → Split slot slots (drop 1 buffer) j (d + 1) es → Split slot slots buffer j d (event s n p Drain ∷ es)
   split_drain slot slots [] j d s n p es h r = let k = h.oldest in cc
   split_drain slot slots (w ∷ ws) j d s n p es h r =
       let same : w ≡ write_of test (event s n p Drain) = (let k = h.oldest in cc) in
-      let first : event s n p Drain ≡ drain_event t w = λ i. event (h.thread i) ((sym same i).iteration) ((sym same i).place) Drain in
+      let first : event s n p Drain ≡ drain_event t w = λ i. event (h.thread i) ((sym same i).iteration)
+      ((sym same i).place) Drain in
       let long : length ws + (d + 1) ≡ length (w ∷ ws) + d = omega arith in
-      let now : d + 1 + r.count ≡ due test options t slot.action j (length (w ∷ ws) + d) = r.due_now ∙ ap (due test options t slot.action j) long in
+      let now : d + 1 + r.count ≡ due test options t slot.action j (length (w ∷ ws) + d) = r.due_now
+      ∙ ap (due test options t slot.action j) long in
       record {
         count = suc r.count;
         here = r.here;
@@ -165,7 +199,8 @@ module _ (test : LitmusTest) (options : Options) (t : ℕ) where
         rest = r.rest;
       }
 
-  split_event : (slot : Slot) (slots : List Slot) (buffer : List Write) (j d : ℕ) (e : Event) (es : List Event) → Acts test options t slot slots buffer j d e es → Split slot slots buffer j d (e ∷ es)
+  split_event : (slot : Slot) (slots : List Slot) (buffer : List Write) (j d : ℕ) (e : Event) (es : List Event)
+      → Acts test options t slot slots buffer j d e es → Split slot slots buffer j d (e ∷ es)
   split_event slot slots buffer j d e es a = record {
     count = 0;
     here = e;
@@ -176,22 +211,30 @@ module _ (test : LitmusTest) (options : Options) (t : ℕ) where
     rest = a.rest;
   }
 
-  split_cons : (slot : Slot) (slots : List Slot) (buffer : List Write) (j d : ℕ) (s n p : ℕ) (k : Kind) (es : List Event) → (Rest (slot ∷ slots) (drop 1 buffer) j (d + 1) es → Split slot slots (drop 1 buffer) j (d + 1) es)
+  split_cons : (slot : Slot) (slots : List Slot) (buffer : List Write) (j d : ℕ) (s n p : ℕ) (k : Kind)
+      (es : List Event) → (Rest (slot ∷ slots) (drop 1 buffer) j (d + 1) es
+      → Split slot slots (drop 1 buffer) j (d + 1) es)
       → Rest (slot ∷ slots) buffer j d (event s n p k ∷ es) → Split slot slots buffer j d (event s n p k ∷ es)
   split_cons slot slots buffer j d s n p Drain es rec r =
-      let h = drains test options t (slot ∷ slots) buffer j d s n p es r in split_drain slot slots buffer j d s n p es h (rec h.rest)
-  split_cons slot slots buffer j d s n p k es rec r = split_event slot slots buffer j d (event s n p k) es (acts test options t slot slots buffer j d s n p k es refl r)
+      let h = drains test options t (slot ∷ slots) buffer j d s n p es r in
+      split_drain slot slots buffer j d s n p es h (rec h.rest)
+  split_cons slot slots buffer j d s n p k es rec r =
+      split_event slot slots buffer j d (event s n p k) es (acts test options t slot slots buffer j d s n p k es refl r)
 
-  pub split : (slot : Slot) (slots : List Slot) (buffer : List Write) (j d : ℕ) (part : List Event) → Rest (slot ∷ slots) buffer j d part → Split slot slots buffer j d part
+  pub split : (slot : Slot) (slots : List Slot) (buffer : List Write) (j d : ℕ) (part : List Event)
+      → Rest (slot ∷ slots) buffer j d part → Split slot slots buffer j d part
   split slot slots buffer j d [] r = absurd r.fills
-  split slot slots buffer j d (e ∷ es) r = split_cons slot slots buffer j d e.thread e.iteration e.place e.kind es (split slot slots (drop 1 buffer) j (d + 1) es) r
+  split slot slots buffer j d (e ∷ es) r =
+      split_cons slot slots buffer j d e.thread e.iteration e.place e.kind es
+      (split slot slots (drop 1 buffer) j (d + 1) es) r
 
   -- And where none is left.
 
   abbrev NoSlots : List Event → Type 0
   NoSlots part = AllZip (Fills t) [] (filter (λ e. not (is_drain e)) part)
 
-  no_turns_cons : (d : ℕ) (s n p : ℕ) (k : Kind) (es : List Event) → (NoSlots es → counted_from (d + 1) es ≡ []) → NoSlots (event s n p k ∷ es) → counted_from d (event s n p k ∷ es) ≡ []
+  no_turns_cons : (d : ℕ) (s n p : ℕ) (k : Kind) (es : List Event) → (NoSlots es → counted_from (d + 1) es ≡ [])
+      → NoSlots (event s n p k ∷ es) → counted_from d (event s n p k ∷ es) ≡ []
   no_turns_cons d s n p Drain es rec h = rec h
   no_turns_cons d s n p k es rec h = absurd h
 
@@ -201,23 +244,31 @@ module _ (test : LitmusTest) (options : Options) (t : ℕ) where
 
   -- the Drains of the turn that are done do not count there
   anew : (buffer : List Write) (j d e : ℕ) (part : List Event) → Rest [] buffer j d part → Rest [] buffer j e part
-  anew buffer j d e part r = record { own = r.own; fills = r.fills; keeps = r.keeps; drained = rw (no_turns e part r.fills) tt }
+  anew buffer j d e part r = record {
+    own = r.own;
+    fills = r.fills;
+    keeps = r.keeps;
+    drained = rw (no_turns e part r.fills) tt;
+  }
 
   pub record EndSplit (w : Write) (ws : List Write) (j : ℕ) (part : List Event) : Type 0 where
     pub later : List Event
     pub whole : part ≡ drain_event t w ∷ later
     pub rest : Rest [] ws j 0 later
 
-  end_cons : (w : Write) (ws : List Write) (j : ℕ) (s n p : ℕ) (k : Kind) (es : List Event) → Rest [] (w ∷ ws) j 0 (event s n p k ∷ es) → EndSplit w ws j (event s n p k ∷ es)
+  end_cons : (w : Write) (ws : List Write) (j : ℕ) (s n p : ℕ) (k : Kind) (es : List Event)
+      → Rest [] (w ∷ ws) j 0 (event s n p k ∷ es) → EndSplit w ws j (event s n p k ∷ es)
   end_cons w ws j s n p Drain es r =
       let h = drains test options t [] (w ∷ ws) j 0 s n p es r in
       let o = h.oldest in
       let same : w ≡ write_of test (event s n p Drain) = cc in
-      let first : event s n p Drain ≡ drain_event t w = λ i. event (h.thread i) ((sym same i).iteration) ((sym same i).place) Drain in
+      let first : event s n p Drain ≡ drain_event t w = λ i. event (h.thread i) ((sym same i).iteration)
+      ((sym same i).place) Drain in
       record { later = es; whole = ap (λ d. d ∷ es) first; rest = anew ws j 1 0 es h.rest }
   end_cons w ws j s n p k es r = absurd r.fills
 
-  pub end_split : (w : Write) (ws : List Write) (j : ℕ) (part : List Event) → Rest [] (w ∷ ws) j 0 part → EndSplit w ws j part
+  pub end_split : (w : Write) (ws : List Write) (j : ℕ) (part : List Event) → Rest [] (w ∷ ws) j 0 part
+      → EndSplit w ws j part
   end_split w ws j [] r = let k = r.keeps in cc
   end_split w ws j (e ∷ es) r = end_cons w ws j e.thread e.iteration e.place e.kind es r
 
@@ -231,7 +282,8 @@ module _ (test : LitmusTest) (options : Options) (t : ℕ) where
 
   -- The other way: what stands in front of the rest of a part.
 
-  pub rest_drain : (slots : List Slot) (w : Write) (ws : List Write) (j d : ℕ) (es : List Event) → IsWriteOf test t w → Rest slots ws j (d + 1) es → Rest slots (w ∷ ws) j d (drain_event t w ∷ es)
+  rest_drain : (slots : List Slot) (w : Write) (ws : List Write) (j d : ℕ) (es : List Event) → IsWriteOf test t w
+      → Rest slots ws j (d + 1) es → Rest slots (w ∷ ws) j d (drain_event t w ∷ es)
   rest_drain slots w ws j d es own r =
       let long : length ws + (d + 1) ≡ length (w ∷ ws) + d = omega arith in
       let P : ℕ → Type 0 = λ b. AreDue options t j b (counted_from (d + 1) es) in
@@ -242,13 +294,16 @@ module _ (test : LitmusTest) (options : Options) (t : ℕ) where
         drained = subst P long r.drained;
       }
 
-  pub rest_event : (slot : Slot) (slots : List Slot) (buffer : List Write) (j d : ℕ) (e : Event) (es : List Event) → Fills t slot e → Agrees test buffer e → d ≡ due test options t slot.action j (length buffer + d)
+  rest_event : (slot : Slot) (slots : List Slot) (buffer : List Write) (j d : ℕ) (e : Event) (es : List Event)
+      → Fills t slot e → Agrees test buffer e → d ≡ due test options t slot.action j (length buffer + d)
       → Rest slots (own_after test buffer e) (j + 1) 0 es → Rest (slot ∷ slots) buffer j d (e ∷ es)
   rest_event slot slots buffer j d e es f a now r =
       let h : is_drain e ≡ false = gives_no_drain slot.action e.kind f.kind in
-      let b : pushed e.kind (length buffer + d - d) ≡ length (own_after test buffer e) + 0 = length_pushed test buffer d e.thread e.iteration e.place e.kind h in
+      let b : pushed e.kind (length buffer + d - d)
+      ≡ length (own_after test buffer e) + 0 = length_pushed test buffer d e.thread e.iteration e.place e.kind h in
       let first : d ≡ drains_due e.kind options.buffer (asks_drain options.seed t options.rate j) (length buffer + d) =
-      now ∙ sym (due-kind slot.action e.kind f.kind options.buffer (asks_drain options.seed t options.rate j) (length buffer + d)) in
+      now ∙ sym (due-kind slot.action e.kind f.kind options.buffer (asks_drain options.seed t options.rate j)
+      (length buffer + d)) in
       let P : ℕ → Type 0 = λ b. AreDue options t (j + 1) b (counted_from 0 es) in
       record {
         own = All-cons (λ (e : Event). e.thread ≡ t) e es f.thread r.own;
@@ -257,14 +312,40 @@ module _ (test : LitmusTest) (options : Options) (t : ℕ) where
         drained = rw h (first, subst P (sym b) r.drained);
       }
 
-  build : (c : ℕ) (slot : Slot) (slots : List Slot) (buffer : List Write) (j d : ℕ) (e : Event) (es : List Event) → c ≤ length buffer → Each (IsWriteOf test t) buffer → Fills t slot e → Agrees test (drop c buffer) e
-      → d + c ≡ due test options t slot.action j (length buffer + d) → Rest slots (own_after test (drop c buffer) e) (j + 1) 0 es → Rest (slot ∷ slots) buffer j d (drains_of t c buffer ++ e ∷ es)
-  build zero slot slots buffer j d e es l own f a now r = rest_event slot slots buffer j d e es f a (let k : d ≡ d + 0 = omega arith in k ∙ now) r
+  build : (c : ℕ) (slot : Slot) (slots : List Slot) (buffer : List Write) (j d : ℕ) (e : Event) (es : List Event)
+      → c ≤ length buffer → Each (IsWriteOf test t) buffer → Fills t slot e → Agrees test (drop c buffer) e
+      → d + c ≡ due test options t slot.action j (length buffer + d)
+      → Rest slots (own_after test (drop c buffer) e) (j + 1) 0 es
+      → Rest (slot ∷ slots) buffer j d (drains_of t c buffer ++ e ∷ es)
+  build zero slot slots buffer j d e es l own f a now r =
+      rest_event slot slots buffer j d e es f a (let k : d ≡ d + 0 = omega arith in k ∙ now) r
   build (suc c) slot slots [] j d e es l own f a now r = absurd (omega arith)
   build (suc c) slot slots (w ∷ ws) j d e es l own f a now r =
       let long : length (w ∷ ws) + d ≡ length ws + (d + 1) = omega arith in
-      let later : d + 1 + c ≡ due test options t slot.action j (length ws + (d + 1)) = (let k : d + 1 + c ≡ d + suc c = omega arith in k ∙ now ∙ ap (due test options t slot.action j) long) in
-      rest_drain (slot ∷ slots) w ws j d (drains_of t c ws ++ e ∷ es) own.0 (build c slot slots ws j (d + 1) e es (omega arith) own.1 f a later r)
+      let later : d + 1 + c ≡ due test options t slot.action j (length ws + (d + 1)) =
+      (let k : d + 1 + c ≡ d + suc c = omega arith in k ∙ now ∙ ap (due test options t slot.action j) long) in
+      rest_drain (slot ∷ slots) w ws j d (drains_of t c ws ++ e ∷ es) own.0
+      (build c slot slots ws j (d + 1) e es (omega arith) own.1 f a later r)
+
+  -- a whole turn, with the Drains that are due before its action
+  pub rest_turn : (slot : Slot) (slots : List Slot) (buffer : List Write) (j c : ℕ) (e : Event) (later : List Event)
+      → c ≡ due test options t slot.action j (length buffer) → c ≤ length buffer → Each (IsWriteOf test t) buffer
+      → Fills t slot e → Agrees test (drop c buffer) e → Rest slots (own_after test (drop c buffer) e) (j + 1) 0 later
+      → Rest (slot ∷ slots) buffer j 0 ((drains_of t c buffer ++ e ∷ []) ++ later)
+  rest_turn slot slots buffer j c e later now few own f a r =
+      let none : 0 + c ≡ c = omega arith in
+      let long : length buffer ≡ length buffer + 0 = omega arith in
+      subst (Rest (slot ∷ slots) buffer j 0) (sym (append_assoc (drains_of t c buffer) (e ∷ []) later))
+      (build c slot slots buffer j 0 e later few own f a (none ∙ now ∙ ap (due test options t slot.action j) long) r)
+
+  -- a turn of a Drain alone, after the last slot
+  pub rest_last : (w : Write) (ws : List Write) (j : ℕ) (later : List Event) → IsWriteOf test t w
+      → Rest [] ws j 0 later → Rest [] (w ∷ ws) j 0 (drain_event t w ∷ later)
+  rest_last w ws j later own r = rest_drain [] w ws j 0 later own (anew ws j 0 1 later r)
+
+  -- and nothing, after the last write
+  pub rest_none : (j : ℕ) → Rest [] [] j 0 []
+  rest_none j = record { own = All-nil (λ (e : Event). e.thread ≡ t); fills = tt; keeps = refl; drained = tt }
 
 -- What a thread still has to do: the slots that are left, and how many are done.
 pub record Doing : Type 0 where
@@ -276,13 +357,10 @@ abbrev pub left_of : Option Doing → List Event → List (List Event)
 left_of None part = []
 left_of (Some d) part = turns_of part
 
-pub steps_join : (test : LitmusTest) (s : State) (xs ys : List Event) → Steps test s xs → Steps test (after_all test s xs) ys → Steps test s (xs ++ ys)
+pub steps_join : (test : LitmusTest) (s : State) (xs ys : List Event) → Steps test s xs
+    → Steps test (after_all test s xs) ys → Steps test s (xs ++ ys)
 steps_join test s [] ys h k = k
 steps_join test s (x ∷ xs) ys h k = (h.0, steps_join test (after test s x) xs ys h.1 k)
-
-pub buffer_after-append : (test : LitmusTest) (buffer : List Write) (xs ys : List Event) → buffer_after test buffer (xs ++ ys) ≡ buffer_after test (buffer_after test buffer xs) ys
-buffer_after-append test buffer [] ys = refl
-buffer_after-append test buffer (x ∷ xs) ys = buffer_after-append test (own_after test buffer x) xs ys
 
 each_dropped : {X : Type 0} (P : X → Type 0) (n : ℕ) (xs : List X) → Each P xs → Each P (drop n xs)
 each_dropped P zero xs h = h
@@ -294,14 +372,18 @@ long_dropped zero xs = omega arith
 long_dropped (suc n) [] = omega arith
 long_dropped (suc n) (x ∷ xs) = let h = long_dropped n xs in omega arith
 
-pub kept_by : (test : LitmusTest) (t n p : ℕ) (action : Instr) (v : ℕ) (buffer : List Write) → Each (IsWriteOf test t) buffer → Each (IsWriteOf test t) (own_after test buffer (event t n p (kind_as action v)))
-kept_by test t n p (Store loc written) v buffer h = each_append (IsWriteOf test t) buffer (write_of test (event t n p Push) ∷ []) h (refl, tt)
+pub kept_by : (test : LitmusTest) (t n p : ℕ) (action : Instr) (v : ℕ) (buffer : List Write)
+    → Each (IsWriteOf test t) buffer → Each (IsWriteOf test t) (own_after test buffer (event t n p (kind_as action v)))
+kept_by test t n p (Store loc written) v buffer h =
+    each_append (IsWriteOf test t) buffer (write_of test (event t n p Push) ∷ []) h (refl, tt)
 kept_by test t n p (Load reg loc) v buffer h = h
 kept_by test t n p Fence v buffer h = h
 kept_by test t n p (Exchange loc written reg) v buffer h = h
 
-long_by : (test : LitmusTest) (t n p : ℕ) (action : Instr) (v : ℕ) (buffer : List Write) → length (own_after test buffer (event t n p (kind_as action v))) ≤ length buffer + 1
-long_by test t n p (Store loc written) v buffer = omega (arith, length-append buffer (write_of test (event t n p Push) ∷ []))
+long_by : (test : LitmusTest) (t n p : ℕ) (action : Instr) (v : ℕ) (buffer : List Write)
+    → length (own_after test buffer (event t n p (kind_as action v))) ≤ length buffer + 1
+long_by test t n p (Store loc written) v buffer =
+    omega (arith, length-append buffer (write_of test (event t n p Push) ∷ []))
 long_by test t n p (Load reg loc) v buffer = omega arith
 long_by test t n p Fence v buffer = omega arith
 long_by test t n p (Exchange loc written reg) v buffer = omega arith
@@ -316,11 +398,12 @@ module _ (test : LitmusTest) (options : Options) (t : ℕ) where
 
   -- the next turn in a state
   abbrev pub turn_by : State → List Slot → ℕ → List Write → List Event
-  turn_by s (slot ∷ slots) j buffer = now_drains slot j buffer ++ event_now test (after_all test s (now_drains slot j buffer)) t slot ∷ []
+  turn_by s (slot ∷ slots) j buffer =
+      now_drains slot j buffer ++ event_now test (after_all test s (now_drains slot j buffer)) t slot ∷ []
   turn_by s [] j (w ∷ ws) = drain_event t w ∷ []
   turn_by s [] j [] = []
 
-  -- what is to do behind it
+  -- what is to do after it
   abbrev pub next_by : List Slot → ℕ → List Write → Option Doing
   next_by (slot ∷ slots) j buffer = Some (record { slots = slots; made = j + 1 })
   next_by [] j (w ∷ ws) = Some (record { slots = []; made = j })
@@ -341,14 +424,16 @@ module _ (test : LitmusTest) (options : Options) (t : ℕ) where
     pub is : Steps test s turn → turn ≡ turn_by s slots j buffer
     pub rest : RestAt (next_by slots j buffer) (buffer_after test buffer turn) later
 
-  pub taken : (s : State) (slots : List Slot) (j : ℕ) (buffer : List Write) (part : List Event) → IsRest test options t slots buffer j 0 part → Taken s slots j buffer part
+  pub taken : (s : State) (slots : List Slot) (j : ℕ) (buffer : List Write) (part : List Event)
+      → IsRest test options t slots buffer j 0 part → Taken s slots j buffer part
   taken s (slot ∷ slots) j buffer part r =
       let h = split test options t slot slots buffer j 0 part r in
       let ds = drains_of t h.count buffer in
       let no_drain : is_drain h.here ≡ false = gives_no_drain slot.action h.here.kind h.fills.kind in
-      let count : h.count ≡ due_count slot j buffer = (let k : h.count ≡ 0 + h.count = omega arith in let l : length buffer + 0 ≡ length buffer = omega arith in k ∙ h.due_now ∙ ap (due test options t slot.action j) l) in
-      let behind : buffer_after test buffer (ds ++ h.here ∷ []) ≡ own_after test (drop h.count buffer) h.here =
-      buffer_after-append test buffer ds (h.here ∷ []) ∙ ap (λ b. own_after test b h.here) (own_drains test t h.count buffer) in
+      let count : h.count ≡ due_count slot j buffer = (let k : h.count ≡ 0 + h.count = omega arith in
+      let l : length buffer + 0 ≡ length buffer = omega arith in k ∙ h.due_now
+      ∙ ap (due test options t slot.action j) l) in
+      let behind = after_drains test t h.count buffer (h.here ∷ []) in
       let P : List Write → Type 0 = λ b. IsRest test options t slots b (j + 1) 0 h.later in
       record {
         turn = ds ++ h.here ∷ [];
@@ -357,8 +442,10 @@ module _ (test : LitmusTest) (options : Options) (t : ℕ) where
         cut = ap turns_of h.whole ∙ turns_front [] ds h.here h.later (all_drain t h.count buffer) no_drain;
         own = each_append (λ e. e.thread ≡ t) ds (h.here ∷ []) (are_drains t h.count buffer) (h.fills.thread, tt);
         is = λ k.
-            ap (λ e. ds ++ e ∷ []) (is_now test (after_all test s ds) t slot h.here h.fills (steps_right test s ds (h.here ∷ []) k).0)
-            ∙ ap (λ c. drains_of t c buffer ++ event_now test (after_all test s (drains_of t c buffer)) t slot ∷ []) count;
+            ap (λ e. ds ++ e ∷ []) (is_now test (after_all test s ds) t slot h.here h.fills
+            (steps_right test s ds (h.here ∷ []) k).0)
+            ∙ ap (λ c. drains_of t c buffer ++ event_now test (after_all test s (drains_of t c buffer)) t slot ∷ [])
+            count;
         rest = subst P (sym behind) h.rest;
       }
   taken s [] j (w ∷ ws) part r =
@@ -381,11 +468,16 @@ module _ (test : LitmusTest) (options : Options) (t : ℕ) where
     pub steps : Steps test s (turn_by s slots j buffer)
     pub own : AreOf t (turn_by s slots j buffer)
     pub kept : Each (IsWriteOf test t) (buffer_after test buffer (turn_by s slots j buffer))
-    pub back : (later : List Event) → RestAt (next_by slots j buffer) (buffer_after test buffer (turn_by s slots j buffer)) later → IsRest test options t slots buffer j 0 (turn_by s slots j buffer ++ later)
-    pub cut : (later : List Event) → RestAt (next_by slots j buffer) (buffer_after test buffer (turn_by s slots j buffer)) later
-        → turns_of (turn_by s slots j buffer ++ later) ≡ turn_by s slots j buffer ∷ left_of (next_by slots j buffer) later
+    pub back : (later : List Event) → RestAt (next_by slots j buffer)
+        (buffer_after test buffer (turn_by s slots j buffer)) later
+        → IsRest test options t slots buffer j 0 (turn_by s slots j buffer ++ later)
+    pub cut : (later : List Event) → RestAt (next_by slots j buffer)
+        (buffer_after test buffer (turn_by s slots j buffer)) later
+        → turns_of (turn_by s slots j buffer ++ later) ≡ turn_by s slots j buffer
+        ∷ left_of (next_by slots j buffer) later
 
-  pub built : (s : State) (slots : List Slot) (j : ℕ) (buffer : List Write) → s.buffer t ≡ buffer → Each (IsWriteOf test t) buffer → 1 ≤ options.buffer → Built s slots j buffer
+  pub built : (s : State) (slots : List Slot) (j : ℕ) (buffer : List Write) → s.buffer t ≡ buffer
+      → Each (IsWriteOf test t) buffer → 1 ≤ options.buffer → Built s slots j buffer
   built s (slot ∷ slots) j buffer h own one =
       let asks = asks_drain options.seed t options.rate j in
       let c = due_count slot j buffer in
@@ -393,34 +485,45 @@ module _ (test : LitmusTest) (options : Options) (t : ℕ) where
       let mid = after_all test s ds in
       let e = event_now test mid t slot in
       let few : c ≤ length buffer = due_few slot.action options.buffer asks (length buffer) one in
-      let there : mid.buffer t ≡ drop c buffer = buffers_own test s t ds (are_drains t c buffer) ∙ ap (λ b. buffer_after test b ds) h ∙ own_drains test t c buffer in
-      let needs : Needs test mid e = can_come test mid t slot.iteration slot.place slot.action options.buffer asks buffer there in
+      let there : mid.buffer t ≡ drop c buffer = buffers_own test s t ds (are_drains t c buffer)
+      ∙ ap (λ b. buffer_after test b ds) h ∙ own_drains test t c buffer in
+      let needs : Needs test mid e = can_come test mid t slot.iteration slot.place slot.action options.buffer asks
+      buffer there in
       let agrees : Agrees test (drop c buffer) e = subst (λ b. Agrees test b e) there (agrees_from test mid e needs) in
-      let fills : Fills t slot e = record { thread = refl; iteration = refl; place = refl; kind = gives_kind slot.action (value_now slot.action mid t (event_location test (event t slot.iteration slot.place Fenced))) } in
+      let fills : Fills t slot e = record {
+        thread = refl;
+        iteration = refl;
+        place = refl;
+        kind =
+            gives_kind slot.action (value_now slot.action mid t (event_location test
+            (event t slot.iteration slot.place Fenced)));
+      } in
       let no_drain : is_drain e ≡ false = gives_no_drain slot.action e.kind fills.kind in
-      let behind : buffer_after test buffer (ds ++ e ∷ []) ≡ own_after test (drop c buffer) e = buffer_after-append test buffer ds (e ∷ []) ∙ ap (λ b. own_after test b e) (own_drains test t c buffer) in
-      let now : 0 + c ≡ due test options t slot.action j (length buffer + 0) = (let k : 0 + c ≡ c = omega arith in let l : length buffer ≡ length buffer + 0 = omega arith in k ∙ ap (due test options t slot.action j) l) in
+      let behind = after_drains test t c buffer (e ∷ []) in
       record {
         steps = steps_join test s ds (e ∷ []) (drains_come test s t c buffer h own) (needs, tt);
         own = each_append (λ e. e.thread ≡ t) ds (e ∷ []) (are_drains t c buffer) (refl, tt);
-        kept = subst (Each (IsWriteOf test t)) (sym behind) (kept_by test t slot.iteration slot.place slot.action (value_now slot.action mid t (event_location test (event t slot.iteration slot.place Fenced))) (drop c buffer) (each_dropped (IsWriteOf test t) c buffer own));
+        kept =
+            subst (Each (IsWriteOf test t)) (sym behind) (kept_by test t slot.iteration slot.place slot.action
+            (value_now slot.action mid t (event_location test (event t slot.iteration slot.place Fenced)))
+            (drop c buffer) (each_dropped (IsWriteOf test t) c buffer own));
         back = λ later r.
-            subst (λ part. IsRest test options t (slot ∷ slots) buffer j 0 part) (sym (append_assoc ds (e ∷ []) later))
-            (build test options t c slot slots buffer j 0 e later few own fills agrees now (subst (λ b. IsRest test options t slots b (j + 1) 0 later) behind r));
+            rest_turn test options t slot slots buffer j c e later refl few own fills agrees
+            (subst (λ b. IsRest test options t slots b (j + 1) 0 later) behind r);
         cut = λ later r. action_turn ds e later (all_drain t c buffer) no_drain;
       }
   built s [] j (w ∷ ws) h own one = record {
     steps = (ap (λ b. slice_get b 0) h ∙ ap (λ w. Some w) (sym own.0), tt);
     own = (refl, tt);
     kept = own.1;
-    back = λ later r. rest_drain test options t [] w ws j 0 later own.0 (anew test options t ws j 0 1 later r);
+    back = λ later r. rest_last test options t w ws j later own.0 r;
     cut = λ later r. drain_turn (drain_event t w) later refl (drains_alone t later r.fills);
   }
   built s [] j [] h own one = record {
     steps = tt;
     own = tt;
     kept = tt;
-    back = λ later e. subst (λ part. IsRest test options t [] [] j 0 part) (sym e) (record { own = All-nil (λ (e : Event). e.thread ≡ t); fills = tt; keeps = refl; drained = tt });
+    back = λ later e. subst (λ part. IsRest test options t [] [] j 0 part) (sym e) (rest_none test options t j);
     cut = λ later e. ap turns_of e;
   }
 
@@ -429,14 +532,18 @@ module _ (test : LitmusTest) (options : Options) (t : ℕ) where
   weight_of None buffer = 0
   weight_of (Some d) buffer = 2 * length d.slots + length buffer + 1
 
-  pub weight_falls : (s : State) (slots : List Slot) (j : ℕ) (buffer : List Write) → weight_of (next_by slots j buffer) (buffer_after test buffer (turn_by s slots j buffer)) < 2 * length slots + length buffer + 1
+  pub weight_falls : (s : State) (slots : List Slot) (j : ℕ) (buffer : List Write)
+      → weight_of (next_by slots j buffer) (buffer_after test buffer (turn_by s slots j buffer))
+      < 2 * length slots + length buffer + 1
   weight_falls s (slot ∷ slots) j buffer =
       let c = due_count slot j buffer in
       let ds = drains_of t c buffer in
       let mid = after_all test s ds in
       let e = event_now test mid t slot in
-      let behind : buffer_after test buffer (ds ++ e ∷ []) ≡ own_after test (drop c buffer) e = buffer_after-append test buffer ds (e ∷ []) ∙ ap (λ b. own_after test b e) (own_drains test t c buffer) in
-      let a = long_by test t slot.iteration slot.place slot.action (value_now slot.action mid t (event_location test (event t slot.iteration slot.place Fenced))) (drop c buffer) in
+      let behind = after_drains test t c buffer (e ∷ []) in
+      let a = long_by test t slot.iteration slot.place slot.action
+      (value_now slot.action mid t (event_location test (event t slot.iteration slot.place Fenced)))
+      (drop c buffer) in
       let b = long_dropped c buffer in
       omega (arith, ap length behind)
   weight_falls s [] j (w ∷ ws) = omega arith

@@ -3,9 +3,9 @@
 use Rattle.std.specs.Prelude.{◌≡◌, ℕ, ◌+◌, ◌-◌, ◌==◌, ◌&&◌, Bool, nat_lt, IfSome, List, [], ◌∷◌, if◌then◌else◌}
 use Rattle.x86_subset.specs.declared.instr.Instr.{Instr}
 use Rattle.x86_subset.specs.declared.instr.Instr.TheVariants.{Store as DoStore, Load as DoLoad, Fence, Exchange}
-use Rattle.seq_conv.specs.Event.{Event, Kind, Push, Drain, Read, Fenced, Exchanged}
+use Rattle.tso_machine.specs.Event.{Event, Kind, Push, Drain, Read, Fenced, Exchanged}
 use Rattle.store_buffer.specs.Generator.{asks_drain}
-use Rattle.tso_runs.specs.declared.options.Options.{Options}
+use Rattle.perp_base.specs.declared.options.Options.{Options}
 use Rattle.tso_runs.specs.Turns.{turn_action, turn_drains, turns_of}
 
 -- the kind of event that an action gives, where it reads v
@@ -35,8 +35,8 @@ pushed (Read v) b = b
 pushed Fenced b = b
 pushed (Exchanged v) b = b
 
--- The turns from number j on, where the own buffer has b writes after the one before: each has as many Drains as are due
--- before its action. Of the turns behind the last action nothing is asked.
+-- The turns from number j on, where the own buffer has b writes after the one before: each has as many Drains as are
+-- due before its action. Of the turns after the last action nothing is asked.
 abbrev pub DrainsWhereDue : Options → ℕ → ℕ → ℕ → List (List Event) → Type 0
 DrainsWhereDue options t j b [] = Unit {0}
 DrainsWhereDue options t j b (turn ∷ turns) =
@@ -44,6 +44,7 @@ DrainsWhereDue options t j b (turn ∷ turns) =
     (turn_drains turn ≡ drains_due e.kind options.buffer (asks_drain options.seed t options.rate j) b)
     × DrainsWhereDue options t (j + 1) (pushed e.kind (b - turn_drains turn)) turns)
 
--- the part of thread t is drained by its seed (where it keeps its buffer, Drains stand at its end until the buffer is empty)
+-- the part of thread t is drained by its seed (where it keeps its buffer, Drains stand at its end until the buffer is
+-- empty)
 abbrev pub IsDrainedBySeed : Options → ℕ → List Event → Type 0
 IsDrainedBySeed options t part = DrainsWhereDue options t 0 0 (turns_of part)

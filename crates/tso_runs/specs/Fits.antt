@@ -1,37 +1,19 @@
--- Lawful parts, and the runs of x86-TSO (Sewell, Sarkar, Owens, Zappa Nardelli and Myreen, CACM 2010) that fit what the threads
--- did on the shared words. That parts are drained by a seed is this project's own rule.
+-- Lawful parts, and the runs of x86-TSO (Sewell, Sarkar, Owens, Zappa Nardelli and Myreen, CACM 2010) that fit what the
+-- threads did on the shared words. That parts are drained by a seed is this project's own rule.
 use Rattle.std.specs.Prelude.{◌≡◌, ℕ, ◌<◌, ◌≤◌, All, List, [], length, slice_index}
 use Rattle.x86_subset.specs.Test.{LitmusTest}
-use Rattle.seq_conv.specs.Event.{Event}
-use Rattle.seq_conv.specs.Machine.{IsLegal, initial, after_all}
-use Rattle.seq_conv.specs.Run.{IsRunOf}
-use Rattle.seq_conv.specs.Part.{part_of, Performs, KeepsBuffer}
+use Rattle.tso_machine.specs.Event.{Event}
+use Rattle.tso_machine.specs.Machine.{IsLegal, initial, after_all}
+use Rattle.tso_machine.specs.Run.{IsRunOf}
+use Rattle.tso_machine.specs.Part.{part_of, Performs, KeepsBuffer}
 use Rattle.tso_words.specs.History.{list_at, word_count}
 use Rattle.tso_words.specs.declared.step.Step.{Step}
-use Rattle.tso_runs.specs.declared.options.Options.{Options}
+use Rattle.perp_base.specs.declared.options.Options.{Options}
 use Rattle.tso_runs.specs.Drained.{IsDrainedBySeed}
 use Rattle.tso_runs.specs.SharedSteps.{shared_steps}
 
--- a rate counts how many of so many words ask for a drain
-abbrev pub whole_rate : ℕ
-whole_rate = 256
-
--- the most writes that a store buffer holds
-abbrev pub most_writes : ℕ
-most_writes = 16
-
-abbrev pub most_iterations : ℕ
-most_iterations = 100000
-
--- the limits of the options
-pub record IsWithinLimits (options : Options) : Type 0 where
-  pub rate : options.rate ≤ whole_rate
-  pub low_buffer : 1 ≤ options.buffer
-  pub high_buffer : options.buffer ≤ most_writes
-  pub low_iterations : 1 ≤ options.iterations
-  pub high_iterations : options.iterations ≤ most_iterations
-
--- the part is of events of thread t alone, does the body as often as it is asked to, keeps its buffer, and drains it by the seed
+-- the part is of events of thread t alone, does the body as often as it is asked to, keeps its buffer, and drains it by
+-- the seed
 pub record IsLawful (test : LitmusTest) (options : Options) (t : ℕ) (part : List Event) : Type 0 where
   pub own : All (λ e. e.thread ≡ t) part
   pub performs : Performs test options.iterations t part

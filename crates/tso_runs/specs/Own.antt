@@ -2,9 +2,9 @@
 -- after its events, and the writes in it with their Drains.
 use Rattle.std.specs.Prelude.{◌≡◌, ℕ, List, [], ◌∷◌}
 use Rattle.x86_subset.specs.Test.{LitmusTest}
-use Rattle.seq_conv.specs.Event.{Event, Drain}
-use Rattle.seq_conv.specs.Machine.{Write, write_of}
-use Rattle.seq_conv.specs.Part.{own_after}
+use Rattle.tso_machine.specs.Event.{Event, Drain}
+use Rattle.tso_machine.specs.Machine.{Write, write_of}
+use Rattle.tso_machine.specs.Part.{own_after}
 
 -- the own buffer after these events
 abbrev pub buffer_after : LitmusTest → List Write → List Event → List Write

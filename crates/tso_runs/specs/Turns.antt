@@ -2,9 +2,9 @@
 -- event is a step by itself; how a part is cut into turns is this project's own. A turn is defined here alone: seeds,
 -- schedules and walkers speak of these.
 use Rattle.std.specs.Prelude.{◌≡◌, ℕ, Option, List, [], ◌∷◌, ◌++◌, filter, find, if◌then◌else◌, length, map, not}
-use Rattle.seq_conv.specs.Event.{Event, is_drain}
+use Rattle.tso_machine.specs.Event.{Event, is_drain}
 
--- The turns of a part behind these Drains: each event that is no Drain with the Drains directly before it, then each
+-- The turns of a part after these Drains: each event that is no Drain with the Drains directly before it, then each
 -- Drain that is left by itself, and at the end an empty turn.
 abbrev pub turns_behind : List Event → List Event → List (List Event)
 turns_behind drains [] = map (λ d. d ∷ []) drains ++ [] ∷ []

@@ -1,6 +1,8 @@
--- Flat histories: the steps of all threads on the sixteen shared words, one after another. So the words are sequentially consistent
--- (Lamport, "How to make a multiprocessor computer that correctly executes multiprocess programs", 1979).
+-- Flat histories: the steps of all threads on the sixteen shared words, one after another. So the words are
+-- sequentially consistent (Lamport, "How to make a multiprocessor computer that correctly executes multiprocess
+-- programs", 1979).
 use Rattle.std.specs.Prelude.{◌≡◌, ℕ, ◌<◌, ◌==◌, List, [], ◌∷◌, filter, map, set, replicate, slice_index, slice_index_or}
+use Rattle.perp_base.specs.declared.limits.TheConstants.{MOST_LOCATIONS, MOST_THREADS}
 use Rattle.tso_words.specs.declared.step.Step.{Step}
 use Rattle.tso_words.specs.declared.step.Step.TheVariants.{Load, Store, Swap}
 use Rattle.tso_words.specs.declared.step.TracedStep.{TracedStep}
@@ -11,11 +13,11 @@ History = List TracedStep
 
 -- how many words there are
 abbrev pub word_count : ℕ
-word_count = 16
+word_count = MOST_LOCATIONS
 
 -- how many numbers of threads there are
 abbrev pub thread_count : ℕ
-thread_count = 8
+thread_count = MOST_THREADS
 
 -- the words before the first step
 abbrev pub zeros : List ℕ

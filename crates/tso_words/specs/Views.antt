@@ -19,7 +19,8 @@ together (v ∷ vs) = v ++ together vs
 -- the step goes to the end of the list of its thread
 abbrev pub grown : ℕ → Step → List Part → List Part
 grown t step [] = []
-grown t step (p ∷ ps) = cond (eqb p.thread t) record { thread = p.thread; steps = p.steps ++ step ∷ [] } p ∷ grown t step ps
+grown t step (p ∷ ps) =
+    cond (eqb p.thread t) record { thread = p.thread; steps = p.steps ++ step ∷ [] } p ∷ grown t step ps
 
 -- the parts of one thread
 abbrev pub only : ℕ → List Part → List Part
@@ -42,8 +43,9 @@ no_steps =
     ∷ record { thread = 3; steps = [] } ∷ record { thread = 4; steps = [] } ∷ record { thread = 5; steps = [] }
     ∷ record { thread = 6; steps = [] } ∷ record { thread = 7; steps = [] } ∷ []
 
--- The rule of the words, which holds between any two steps. There is one flat history whose memory is the words.
--- In the views of all seats together each of the numbers 0 to 7 stands once, beside its part of the history, and no other number stands.
+-- The rule of the words, which holds between any two steps. There is one flat history whose memory is the words. In the
+-- views of all seats together each of the numbers 0 to 7 stands once, beside its part of the history, and no other
+-- number stands.
 abbrev pub HoldsOneHistory : List ℕ → List (List Part) → Type 0
 HoldsOneHistory words views =
     (history : History) × IsFlat words history

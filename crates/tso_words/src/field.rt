@@ -1,4 +1,4 @@
-// The words, the numbers that no thread has, and what is left after the last step.
+//! The words, the numbers that no thread has, and what is left after the last step.
 ghost use Rattle.std.specs.Prelude.{◌≡◌, ℕ, ◌<◌, [], ◌∷◌, ◌++◌, IfOk, slice_index};
 ghost use Rattle.std.specs.Slots.{slots_items, slots_len, IsFull};
 ghost use Rattle.tso_words.specs.History.{word_count, ArePartsOfOne, eight};
@@ -51,7 +51,8 @@ impl Model for Home {
     ghost invariant = { λ h. h.seat.me.1 ≡ [] };
 }
 
-/// A new field: words of 0, and the numbers 0 to 7 at home with empty lists. Contracts see its identity, which is its table's.
+/// A new field: words of 0, and the numbers 0 to 7 at home with empty lists. Contracts see its identity, which is its
+/// table's.
 #[derive(Drop)]
 pub struct Field {
     words: Words,
@@ -73,9 +74,10 @@ impl Model for Field {
 }
 
 impl Field {
-    /// A new field: sixteen words of 0, all eight numbers at home, and no step taken. That its lists are empty holds of every `Field`, as
-    /// `fresh` of `parts` says; and so its words are 0 where it is closed before a step, by `lists` and `whole` of `Words::close`. `Err` where
-    /// memory is refused (no clause says when); of the other calls of this crate only `Traced::reserve` can fail.
+    /// A new field: sixteen words of 0, all eight numbers at home, and no step taken. That its lists are empty holds of
+    /// every `Field`, as `fresh` of `parts` says; and so its words are 0 where it is closed before a step, by `lists`
+    /// and `whole` of `Words::close`. `Err` where memory is refused (no clause says when); of the other calls of this
+    /// crate only `Traced::reserve` can fail.
     pub fn new(alloc: Global) -> Result<Field, NoMemory>
         ensures made { IfOk result (λ field. (field.words ≡ word_count) × (field.slots ≡ 0)) }
     {
@@ -97,7 +99,7 @@ impl Field {
 }
 
 impl Home {
-    // The lending for a number that the call picks.
+    /// The lending for a number that the call picks.
     fn lend_as<T: Number>(&mut self, words: &Words, thread: u32) -> Lane
         requires number { thread ≡ T.number }
         requires identity { self.old.identity ≡ words.now }
@@ -134,8 +136,8 @@ impl Home {
     }
 }
 
-/// What is left after the last step: the words, and the lists of the eight threads. The lists are the parts of one flat history whose memory
-/// is the words. The lists are known to contracts alone.
+/// What is left after the last step: the words, and the lists of the eight threads. The lists are the parts of one flat
+/// history whose memory is the words. The lists are known to contracts alone.
 #[derive(Drop)]
 pub struct Done {
     words: [u64; WORD_COUNT],
@@ -149,12 +151,16 @@ impl Model for Done {
 
     ghost Value = { Ended };
 
-    ghost view = { λ d. record { identity = d.known.value.table_id; words = d.words; lists = eight (λ t. list_of t d.known.value.me.0) } };
+    ghost view = { λ d. record {
+      identity = d.known.value.table_id;
+      words = d.words;
+      lists = eight (λ t. list_of t d.known.value.me.0);
+    } };
 
     ghost invariant = { λ d. ArePartsOfOne d.words (eight (λ t. list_of t d.known.value.me.0)) };
 }
 
-// The words of a table that is closed.
+/// The words of a table that is closed.
 fn read_words(closed: &Closed<(), Global>) -> [u64; WORD_COUNT]
     requires len { slots_len closed.now.words ≡ word_count }
     requires full { IsFull closed.now.words }

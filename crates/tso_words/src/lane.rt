@@ -1,4 +1,4 @@
-// One number, which a thread steps with.
+//! One number, which a thread steps with.
 ghost use Rattle.std.specs.Prelude.{◌≡◌, ◌<◌, [], ◌∷◌, ◌++◌, refl};
 ghost use Rattle.std.proofs.Common.{◌∙◌};
 ghost use Rattle.tso_words.specs.History.{word_count};
@@ -66,8 +66,8 @@ impl Lane {
     }
 }
 
-/// A lent number over the shared words. Each call of `Port` is one atomic step, and any number of steps can be taken. Contracts see it as
-/// its lane.
+/// A lent number over the shared words. Each call of `Port` is one atomic step, and any number of steps can be taken.
+/// Contracts see it as its lane.
 #[derive(Drop)]
 pub struct Post<'a> {
     words: &'a Words,

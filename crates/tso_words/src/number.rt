@@ -1,4 +1,4 @@
-// A thread's number in a type, for the proof of a call that speaks of one number.
+//! A thread's number in a type, for the proof of a call that speaks of one number.
 ghost use Rattle.std.specs.Prelude.{ℕ};
 
 use std::marker::Brand;

@@ -5,8 +5,8 @@ ghost use Rattle.tso_words.specs.declared.step.Step.TheVariants.{Load, Store, Sw
 ghost use Rattle.tso_words.specs.History.{word_count};
 ghost use Rattle.tso_words.specs.Appended.{Appends};
 
-/// Takes steps on the words as one thread. No call fails and none takes memory. Each call appends exactly one step, its own, with the value
-/// that it answers (`Appends` of `specs/Appended`).
+/// Takes steps on the words as one thread. No call fails and none takes memory. Each call appends exactly one step, its
+/// own, with the value that it answers (`Appends` of `specs/Appended`).
 pub trait Port {
     // The steps so far.
     ghost steps: { Self → List Step };

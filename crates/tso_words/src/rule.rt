@@ -1,4 +1,4 @@
-// The rule of the words, and what each of the six kinds of step tells: making, load, store, swap, split and join.
+//! The rule of the words, and what each of the six kinds of step tells: making, load, store, swap, split and join.
 use crate::number::Number;
 use crate::step::Part;
 use atomic_table::{Join, Play, Split, TableRule};

@@ -1,11 +1,12 @@
-// One step on a word, and the lists of steps that proofs speak of.
+//! One step on a word, and the lists of steps that proofs speak of.
+use perp_base::{MOST_LOCATIONS, MOST_THREADS};
 use std::collections::LinkedList;
 
 /// How many shared words there are.
-pub const WORD_COUNT: usize = 16;
+pub const WORD_COUNT: usize = MOST_LOCATIONS;
 
 /// How many numbers of threads there are.
-pub const THREAD_COUNT: u32 = 8;
+pub const THREAD_COUNT: u32 = MOST_THREADS as u32;
 
 /// A step on the word `loc`, from 0. A load has the value that it found, and a swap the value that it found as `old`.
 #[derive(Clone, Copy, PartialEq, Eq, Debug)]

@@ -1,4 +1,4 @@
-// One atomic step, through a seat in whose view the number stands.
+//! One atomic step, through a seat in whose view the number stands.
 ghost use Rattle.std.specs.Prelude.{◌≡◌, ◌<◌};
 ghost use Rattle.tso_words.specs.History.{word_count};
 ghost use Rattle.tso_words.specs.Views.{IsAtHome, Grows};

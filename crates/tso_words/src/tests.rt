@@ -1,4 +1,4 @@
-// Lanes of one thread over one field.
+//! Lanes of one thread over one field.
 ghost use Rattle.std.specs.Prelude.{◌≡◌, ◌<◌};
 ghost use Rattle.tso_words.specs.History.{thread_count};
 ghost use Rattle.tso_words.specs.Views.{AllHome};
@@ -23,7 +23,7 @@ fn two_lanes(rt: HostRuntime) -> Result<(), Fail> {
     Ok(())
 }
 
-// Lends one number, and takes it back at once.
+/// Lends one number, and takes it back at once.
 fn lend_once(home: &mut Home, words: &Words, thread: u32)
     requires identity { home.old.identity ≡ words.now }
     requires home { AllHome home.old.parts }

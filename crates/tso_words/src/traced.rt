@@ -1,4 +1,4 @@
-// A history that is stored, and a port that adds to it.
+//! A history that is stored, and a port that adds to it.
 ghost use Rattle.std.specs.Prelude.{◌≡◌, ◌+◌, ◌<◌, ◌≤◌, [], ◌∷◌, ◌++◌, length, refl, slice_index, slice_set, IfOk};
 ghost use Rattle.std.proofs.Common.{◌∙◌, ap, append-nil, append_assoc, sym};
 ghost use Rattle.std.proofs.Math.Nat.{add-le-add, le_refl, le_trans};
@@ -12,8 +12,8 @@ use perp_base::NoMemory;
 use std::alloc::Global;
 use std::marker::Model;
 
-/// Sixteen words, and the history of all steps that were taken on them, the first step first. It never grows past its room. The history is
-/// flat and its memory is the words.
+/// Sixteen words, and the history of all steps that were taken on them, the first step first. It never grows past its
+/// room. The history is flat and its memory is the words.
 #[derive(Drop)]
 pub struct Traced {
     words: [u64; WORD_COUNT],
@@ -30,7 +30,8 @@ impl Model for Traced {
 
     ghost view = { λ t. record { history = t.steps.items; words = t.words; room = t.room } };
 
-    ghost invariant = { λ t. IsFlat t.words t.steps.items × (length t.steps.items ≤ t.room) × (t.room ≤ vec_capacity t.steps) };
+    ghost invariant = { λ t. IsFlat t.words t.steps.items × (length t.steps.items ≤ t.room)
+        × (t.room ≤ vec_capacity t.steps) };
 }
 
 impl Traced {
@@ -78,7 +79,8 @@ impl Traced {
         requires thread { thread < thread_count }
         requires loc { loc < word_count }
         requires room { length self.old.history < self.old.room }
-        ensures history { self.new.history ≡ self.old.history ++ record { thread = thread; step = Step.Load loc result } ∷ [] }
+        ensures history { self.new.history ≡ self.old.history ++ record { thread = thread; step = Step.Load loc result }
+            ∷ [] }
         ensures room { self.new.room ≡ self.old.room }
         ensures flat { IsFlat self.new.words self.new.history }
     {
@@ -92,7 +94,8 @@ impl Traced {
         requires thread { thread < thread_count }
         requires loc { loc < word_count }
         requires room { length self.old.history < self.old.room }
-        ensures history { self.new.history ≡ self.old.history ++ record { thread = thread; step = Step.Store loc value } ∷ [] }
+        ensures history { self.new.history ≡ self.old.history ++ record { thread = thread; step = Step.Store loc value }
+            ∷ [] }
         ensures room { self.new.room ≡ self.old.room }
         ensures flat { IsFlat self.new.words self.new.history }
     {
@@ -105,7 +108,8 @@ impl Traced {
         requires thread { thread < thread_count }
         requires loc { loc < word_count }
         requires room { length self.old.history < self.old.room }
-        ensures history { self.new.history ≡ self.old.history ++ record { thread = thread; step = Step.Swap loc new result } ∷ [] }
+        ensures history { self.new.history ≡ self.old.history
+            ++ record { thread = thread; step = Step.Swap loc new result } ∷ [] }
         ensures room { self.new.room ≡ self.old.room }
         ensures flat { IsFlat self.new.words self.new.history }
     {
@@ -169,7 +173,7 @@ impl Port for TracedPort {
 
     ghost kept_at_once = { λ p. (refl, refl, ([], sym (append-nil p.trace.history))) };
 
-    // What the second call gained stands behind what the first one did.
+    // What the second call gained stands after what the first one did.
     ghost kept_on = { λ p q r a b. (
       b.0 ∙ a.0,
       b.1 ∙ a.1,

@@ -2,13 +2,13 @@
 use Rattle.std.proofs.Common.{◌≡◌, ℕ, Ok, Err, refl}
 use Rattle.std.specs.Prelude.{codes}
 use Rattle.x86_subset.specs.declared.instr.Reg.TheVariants.{Eax, Edi}
-use Rattle.x86_subset.specs.declared.cell.InstrError.TheVariants.{Unknown, Operand, Number}
-use Rattle.x86_subset.specs.Token.{start, is_blank, is_digit, is_letter, is_head, is_tail, sign, is_pair, close_end, pair_cut, cut_at, lex}
-use Rattle.x86_subset.specs.Form.{capital, register_of, fill, fit, meaning}
+use Rattle.x86_subset.specs.declared.cell.InstrError.TheVariants.{Unknown, Operand, TooLarge}
+use Rattle.x86_subset.specs.Token.{start, is_blank, is_head, is_tail, sign, is_pair, close_end, pair_cut, cut_at, lex}
+use Rattle.x86_subset.specs.Form.{register_of, fill, fit, meaning}
 use Rattle.x86_subset.specs.Cell.{Blank, Fence, StoreNumber, StoreRegister, Load, Constant, Exchange, parse}
 
 everything : ℕ
-unfolding is_blank is_digit is_letter is_head is_tail sign is_pair close_end pair_cut cut_at lex capital register_of fill fit meaning parse
+unfolding is_blank is_head is_tail sign is_pair close_end pair_cut cut_at lex register_of fill fit meaning parse
 everything = 0
 
 blank : parse (lex 0 start (codes "  (* nothing *) ")) ≡ Ok Blank
@@ -23,11 +23,11 @@ largest : parse (lex 0 start (codes "mov [x],4294967295")) ≡ Ok (StoreNumber (
 unfolding everything
 largest = refl
 
-too_large : parse (lex 0 start (codes "MOV [x],$4294967296")) ≡ Err Number
+too_large : parse (lex 0 start (codes "MOV [x],$4294967296")) ≡ Err TooLarge
 unfolding everything
 too_large = refl
 
-constant_too_large : parse (lex 0 start (codes "MOV EAX,$99999999999")) ≡ Err Number
+constant_too_large : parse (lex 0 start (codes "MOV EAX,$99999999999")) ≡ Err TooLarge
 unfolding everything
 constant_too_large = refl
 

@@ -1,5 +1,5 @@
--- The cells of the code, and what they do: of the X86 instructions that herdtools' litmus format has, the forms of MOV, MFENCE and XCHG
--- that this project takes.
+-- The cells of the code, and what they do: of the X86 instructions that herdtools' litmus format has, the forms of MOV,
+-- MFENCE and XCHG that this project takes.
 use Rattle.std.specs.Prelude.{ℕ, ◌^◌, Bool, true, false, ◌||◌, IsTrue, IsFalse, if◌then◌else◌, Result, Ok, Err, List, [], ◌∷◌, ◌++◌, length, Option, Some, None, slice_index_or, slice_set, nat_lt, bytes_eq, position}
 use Rattle.x86_subset.specs.declared.instr.Reg.{Reg}
 use Rattle.x86_subset.specs.declared.instr.Instr.{Instr}
@@ -14,7 +14,7 @@ use Rattle.x86_subset.specs.declared.form.Slot.{Slot}
 use Rattle.x86_subset.specs.declared.form.Slot.TheVariants.{Mark, Maybe, Word, Location, Register, Any}
 use Rattle.x86_subset.specs.Token.{Lexeme}
 use Rattle.x86_subset.specs.declared.cell.InstrError.{InstrError}
-use Rattle.x86_subset.specs.declared.cell.InstrError.TheVariants.{Unknown, Operand, Number}
+use Rattle.x86_subset.specs.declared.cell.InstrError.TheVariants.{Unknown, Operand, TooLarge}
 use Rattle.x86_subset.specs.Form.{is_keyword, Found, Row, Means, meaning}
 
 -- what a cell says
@@ -76,7 +76,7 @@ pub data Parses (ts : List Lexeme) : Result Form InstrError → Type 0 where
   -- one of the forms
   parsed : (form : Form) → Means cell_rows ts (Some form) → IsTrue (is_small form) → Parses ts (Ok form)
   -- one of the forms, and a numeral past 32 bits
-  too_large : (form : Form) → Means cell_rows ts (Some form) → IsFalse (is_small form) → Parses ts (Err Number)
+  too_large : (form : Form) → Means cell_rows ts (Some form) → IsFalse (is_small form) → Parses ts (Err TooLarge)
   -- another word in front
   unknown : Means cell_rows ts None → IsFalse (begins_instr ts) → Parses ts (Err Unknown)
   -- one of the words, and none of its forms
@@ -85,7 +85,7 @@ pub data Parses (ts : List Lexeme) : Result Form InstrError → Type 0 where
 -- the same as a function
 abbrev pub judged : List Lexeme → Option Form → Result Form InstrError
 judged ts None = Err (if begins_instr ts then Operand else Unknown)
-judged ts (Some form) = if is_small form then Ok form else Err Number
+judged ts (Some form) = if is_small form then Ok form else Err TooLarge
 
 -- what a cell says
 unfoldable pub parse : List Lexeme → Result Form InstrError
@@ -100,7 +100,11 @@ pub record Threads : Type 0 where
 
 -- no actions, and each register holds 0
 abbrev pub empty_code : Code
-empty_code = record { actions = []; registers = held.Constant 0 ∷ held.Constant 0 ∷ held.Constant 0 ∷ held.Constant 0 ∷ held.Constant 0 ∷ held.Constant 0 ∷ [] }
+empty_code = record {
+  actions = [];
+  registers =
+      held.Constant 0 ∷ held.Constant 0 ∷ held.Constant 0 ∷ held.Constant 0 ∷ held.Constant 0 ∷ held.Constant 0 ∷ [];
+}
 
 -- what a register holds
 abbrev pub held_by : Code → Reg → Held
@@ -118,7 +122,7 @@ adding code i = record code { actions = code.actions ++ i ∷ [] }
 abbrev pub reading : Code → Reg → Instr → Code
 reading code r i = holding (adding code i) r (held.Read (length code.actions))
 
--- the action behind the others, with what its register holds then
+-- the action after the others, with what its register holds then
 abbrev pub added : Code → Instr → Code
 added code (instr.Store x n) = adding code (instr.Store x n)
 added code instr.Fence = adding code instr.Fence
@@ -135,7 +139,7 @@ abbrev pub number_by : Option ℕ → ℕ → ℕ
 number_by (Some i) n = i
 number_by None n = n
 
--- the locations with this one behind them, unless it stands there
+-- the locations with this one after them, unless it stands there
 abbrev pub having_by : Option ℕ → List (List ℕ) → List ℕ → List (List ℕ)
 having_by (Some i) xs x = xs
 having_by None xs x = xs ++ x ∷ []
@@ -162,10 +166,12 @@ abbrev pub code_after : List (List ℕ) → Form → Code → Option Code
 code_after xs Blank code = Some code
 code_after xs Fence code = Some (adding code instr.Fence)
 code_after xs (StoreNumber x n) code = Some (adding code (instr.Store (location_number xs x) n))
-code_after xs (StoreRegister x r) code = with_constant (held_by code r) (λ n. adding code (instr.Store (location_number xs x) n))
+code_after xs (StoreRegister x r) code =
+    with_constant (held_by code r) (λ n. adding code (instr.Store (location_number xs x) n))
 code_after xs (Load r x) code = Some (reading code r (instr.Load r (location_number xs x)))
 code_after xs (Constant r n) code = Some (holding code r (held.Constant n))
-code_after xs (Exchange x r) code = with_constant (held_by code r) (λ n. reading code r (instr.Exchange (location_number xs x) n r))
+code_after xs (Exchange x r) code =
+    with_constant (held_by code r) (λ n. reading code r (instr.Exchange (location_number xs x) n r))
 
 -- the locations with the one that a form names
 abbrev pub locations_after : List (List ℕ) → Form → List (List ℕ)

@@ -1,6 +1,8 @@
 -- The forms that tokens may have: rows of slots, each of which one token fills. This project's own.
-use Rattle.std.specs.Prelude.{◌≡◌, ℕ, ◌+◌, ◌*◌, ◌-◌, min, length, take, drop, ◌^◌, Bool, true, false, ◌&&◌, IsFalse, List, [], ◌∷◌, map, Option, Some, None, option_map, Result, Ok, Err, nat_le, nat_lt, ◌==◌, if◌then◌else◌, codes, bytes_eq, is_none}
-use Rattle.std.specs.List.{list_all, zip, fold}
+use Rattle.std.specs.Prelude.{◌≡◌, ℕ, ◌+◌, ◌*◌, ◌-◌, min, take, drop, ◌^◌, Bool, true, false, ◌&&◌, IsFalse, List, [], ◌∷◌, map, Option, Some, None, option_map, Result, Ok, Err, nat_lt, ◌==◌, if◌then◌else◌, codes, bytes_eq, is_none}
+use Rattle.std.specs.List.{fold}
+use Rattle.std.specs.Str.{str_eq_ignore_ascii_case}
+use Prim.Native.Char.{code}
 use Rattle.x86_subset.specs.declared.instr.Reg.{Reg}
 use Rattle.x86_subset.specs.declared.instr.Reg.TheVariants.{Eax, Ebx, Ecx, Edx, Esi, Edi}
 use Rattle.x86_subset.specs.declared.form.Keyword.{Keyword}
@@ -50,13 +52,9 @@ next_is kind (t ∷ ts) = is kind t
 abbrev pub is_word : List ℕ → Lexeme → Bool
 is_word word t = is Name t && bytes_eq t.spelled word
 
--- a small letter as a capital; any other byte as it is
-unfoldable pub capital : ℕ → ℕ
-capital b = if nat_le 97 b && nat_le b 122 then b - 32 else b
-
 -- the bytes are the word, in letters of either case
 abbrev pub spells : List ℕ → List ℕ → Bool
-spells word bytes = length bytes == length word && list_all (λ p. capital p.0 == p.1) (zip bytes word)
+spells word bytes = str_eq_ignore_ascii_case bytes word
 
 -- the register that the bytes name
 unfoldable pub register_of : List ℕ → Option Reg
@@ -67,7 +65,7 @@ register_of bytes =
 
 -- the number that decimal digits spell
 abbrev pub spelled_number : List ℕ → ℕ
-spelled_number digits = fold (λ n b. n * 10 + (b - 48)) 0 digits
+spelled_number digits = fold (λ n b. n * 10 + (b - code "0")) 0 digits
 
 -- and 2^32 for any larger one
 abbrev pub capped_number : List ℕ → ℕ
@@ -126,24 +124,27 @@ unfoldable pub fill : Slot → Lexeme → Found → Option Found
 fill (Mark kind) t found = if is kind t then Some found else None
 fill (Maybe kind) t found = if is kind t then Some found else None
 fill (Word word) t found = if is_keyword word t then Some found else None
-fill Location t found = if is Name t && is_none (register_of t.spelled) then Some (record found { location = t.spelled }) else None
+fill Location t found =
+    if is Name t && is_none (register_of t.spelled) then Some (record found { location = t.spelled }) else None
 fill Register t found = if is Name t then with_register found (register_of t.spelled) else None
 fill Any t found = if is Number t then Some (record found { number = value t }) else None
 fill Small t found = if is Number t && nat_lt (value t) (2 ^ 32) then Some (record found { small = value t }) else None
-fill Thread t found = if is Number t && nat_lt (value t) (2 ^ 32) then Some (record found { thread = value t }) else None
+fill Thread t found =
+    if is Number t && nat_lt (value t) (2 ^ 32) then Some (record found { thread = value t }) else None
 
 -- whether the slot may stay empty
 abbrev pub may_miss : Slot → Bool
 may_miss (Maybe kind) = true
 may_miss _ = false
 
--- `Fits slots tokens found answer`: either the tokens fill all slots, and the answer is what was found and the tokens behind,
--- or it is the tokens from the first on that does not fit.
+-- `Fits slots tokens found answer`: either the tokens fill all slots, and the answer is what was found and the tokens
+-- after, or it is the tokens from the first on that does not fit.
 pub data Fits : List Slot → List Lexeme → Found → Result (Found × List Lexeme) (List Lexeme) → Type 0 where
   -- no slot is left
   full : {ts : List Lexeme} {found : Found} → Fits [] ts found (Ok (found, ts))
   -- the token fills the slot
-  fits : {s : Slot} {ss : List Slot} {t : Lexeme} {ts : List Lexeme} {found : Found} {r : Result (Found × List Lexeme) (List Lexeme)}
+  fits : {s : Slot} {ss : List Slot} {t : Lexeme} {ts : List Lexeme} {found : Found}
+      {r : Result (Found × List Lexeme) (List Lexeme)}
       (more : Found) → fill s t found ≡ Some more → Fits ss ts more r → Fits (s ∷ ss) (t ∷ ts) found r
   -- the token does not fill the slot, which must be filled
   misfit : {s : Slot} {ss : List Slot} {t : Lexeme} {ts : List Lexeme} {found : Found}
@@ -151,14 +152,20 @@ pub data Fits : List Slot → List Lexeme → Found → Result (Found × List Le
   -- no token is left for it
   short : {s : Slot} {ss : List Slot} {found : Found} → IsFalse (may_miss s) → Fits (s ∷ ss) [] found (Err [])
   -- an optional token that is not there
-  missing : {kind : TokenKind} {ss : List Slot} {ts : List Lexeme} {found : Found} {r : Result (Found × List Lexeme) (List Lexeme)}
+  missing : {kind : TokenKind} {ss : List Slot} {ts : List Lexeme} {found : Found}
+      {r : Result (Found × List Lexeme) (List Lexeme)}
       → IsFalse (next_is kind ts) → Fits ss ts found r → Fits (Maybe kind ∷ ss) ts found r
 
 -- the same as a function
 unfoldable pub fit : List Slot → List Lexeme → Found → Result (Found × List Lexeme) (List Lexeme)
 fit [] ts found = Ok (found, ts)
 fit (s ∷ ss) [] found = if may_miss s then fit ss [] found else Err []
-fit (s ∷ ss) (t ∷ ts) found = elim (fill s t found) [ Some more ↦ fit ss ts more | None ↦ elim (may_miss s) [ true ↦ fit ss (t ∷ ts) found | false ↦ Err (t ∷ ts) ] ]
+fit (s ∷ ss) (t ∷ ts) found =
+    elim (fill s t found) [
+      | Some more ↦ fit ss ts more
+      | None ↦ elim (may_miss s)
+          [ true ↦ fit ss (t ∷ ts) found | false ↦ Err (t ∷ ts) ]
+    ]
 
 -- ---- tables of forms
 
@@ -176,9 +183,11 @@ pub data Means {A : Type 0} : List (Row A) → List Lexeme → Option A → Type
   -- no row is left
   no_row : {ts : List Lexeme} → Means [] ts None
   -- the tokens have this row's form
-  by_row : {row : Row A} {rows : List (Row A)} {ts : List Lexeme} (found : Found) → HasForm row ts found → Means (row ∷ rows) ts (Some (row.means found))
+  by_row : {row : Row A} {rows : List (Row A)} {ts : List Lexeme} (found : Found) → HasForm row ts found
+      → Means (row ∷ rows) ts (Some (row.means found))
   -- they do not
-  by_later : {row : Row A} {rows : List (Row A)} {ts : List Lexeme} {r : Option A} → ((found : Found) → HasForm row ts found → ⊥) → Means rows ts r → Means (row ∷ rows) ts r
+  by_later : {row : Row A} {rows : List (Row A)} {ts : List Lexeme} {r : Option A}
+      → ((found : Found) → HasForm row ts found → ⊥) → Means rows ts r → Means (row ∷ rows) ts r
 
 -- the same as a function
 abbrev pub whole : Result (Found × List Lexeme) (List Lexeme) → Option Found
@@ -189,17 +198,24 @@ whole (Err ts) = None
 -- what the tokens mean by the first row whose form they have
 unfoldable pub meaning : {A : Type 0} → List (Row A) → List Lexeme → Option A
 meaning [] ts = None
-meaning (row ∷ rows) ts = let later = meaning rows ts in elim (whole (fit row.slots ts nothing_found)) [ Some found ↦ Some (row.means found) | None ↦ later ]
+meaning (row ∷ rows) ts =
+    let later = meaning rows ts in
+    elim (whole (fit row.slots ts nothing_found)) [ Some found ↦ Some (row.means found) | None ↦ later ]
 
 -- ---- tokens by their places
 
 -- a token with its bytes in the text
 abbrev pub lexeme_of : List ℕ → Token → Lexeme
-lexeme_of text t = record { kind = t.kind; spelled = take (t.to - t.from) (drop t.from text); from = t.from; line = t.line }
+lexeme_of text t = record {
+  kind = t.kind;
+  spelled = take (t.to - t.from) (drop t.from text);
+  from = t.from;
+  line = t.line;
+}
 
 -- where a token stands in the text
-abbrev pub place_of : Token → Span
-place_of t = record { from = t.from; to = t.to }
+abbrev pub span_of : Token → Span
+span_of t = record { from = t.from; to = t.to }
 
 -- tokens with their bytes in the text
 abbrev pub lexemes : List ℕ → List Token → List Lexeme
@@ -211,13 +227,19 @@ nothing_at = record { thread = 0; location = record { from = 0; to = 0 }; regist
 
 -- what is found, with the location's bytes in the text
 abbrev pub found_of : List ℕ → FoundAt → Found
-found_of text f = record { thread = f.thread; location = take (f.location.to - f.location.from) (drop f.location.from text); register = f.register; number = f.number; small = f.small }
+found_of text f = record {
+  thread = f.thread;
+  location = take (f.location.to - f.location.from) (drop f.location.from text);
+  register = f.register;
+  number = f.number;
+  small = f.small;
+}
 
 -- What a function found in tokens is what the tokens give.
 abbrev pub Fills : List ℕ → Option FoundAt → Option Found → Type 0
 Fills text found o = o ≡ option_map (found_of text) found
 
--- the first of the tokens fills the slot; what is found then, and the tokens behind
+-- the first of the tokens fills the slot; what is found then, and the tokens after
 abbrev pub fill_first : Slot → List Lexeme → Found → Option (Found × List Lexeme)
 fill_first s [] found = None
 fill_first s (t ∷ ts) found = option_map (λ (more : Found). (more, ts)) (fill s t found)

@@ -1,4 +1,4 @@
--- What the six registers of a litmus test hold behind a body. This project's own.
+-- What the six registers of a litmus test hold after a body. This project's own.
 use Rattle.std.specs.Prelude.{ℕ, Option, None, Some, List, All, IsTrue, MatchOption, slice_get}
 use Rattle.x86_subset.specs.declared.body.Held.{Held}
 use Rattle.x86_subset.specs.declared.body.Held.TheVariants as held

@@ -9,7 +9,7 @@ use Rattle.x86_subset.specs.declared.test.Quantifier.{Quantifier}
 use Rattle.x86_subset.specs.Instr.{is_reading}
 use Rattle.x86_subset.specs.Registers.{AreHeld, place_held, register_number}
 
--- the body of a thread: its actions in order, and what each register holds behind them
+-- the body of a thread: its actions in order, and what each register holds after them
 pub record Code : Type 0 where
   pub actions : List Instr
   pub registers : List Held
@@ -37,12 +37,15 @@ column_of test t place = count_by is_reading (take place (body_of test t))
 
 -- the column of the action at a place; None where it reads nothing
 abbrev pub column_at : LitmusTest → ℕ → ℕ → Option ℕ
-column_at test t place = option_and_then (λ i. if is_reading i then Some (column_of test t place) else None) (slice_get (body_of test t) place)
+column_at test t place =
+    option_and_then (λ i. if is_reading i then Some (column_of test t place) else None)
+    (slice_get (body_of test t) place)
 
--- the place of the action that a register holds behind thread t's body
+-- the place of the action that a register holds after thread t's body
 abbrev pub last_writer_of : LitmusTest → ℕ → Reg → Option ℕ
 last_writer_of test t reg =
-    option_and_then (λ (code : Code). option_and_then place_held (slice_get code.registers (register_number reg))) (slice_get test.bodies t)
+    option_and_then (λ (code : Code). option_and_then place_held (slice_get code.registers (register_number reg)))
+    (slice_get test.bodies t)
 
 -- each body's registers hold constants and what it reads
 abbrev pub HoldsReads : LitmusTest → Type 0

@@ -1,32 +1,27 @@
--- The tokens of a text, after the lexical form of herdtools' litmus tests; what is no token there is this project's own choice.
-use Rattle.std.specs.Prelude.{◌≡◌, ℕ, zero, suc, ◌+◌, Bool, true, false, ◌&&◌, ◌||◌, IsTrue, IsFalse, List, [], ◌∷◌, ◌++◌, length, map, take, drop, Option, Some, None, option_map, nat_le, ◌==◌, if◌then◌else◌}
+-- The tokens of a text, after the lexical form of herdtools' litmus tests; what is no token there is this project's own
+-- choice.
+use Rattle.std.specs.Prelude.{◌≡◌, ℕ, zero, suc, ◌+◌, Bool, true, false, ◌&&◌, ◌||◌, IsTrue, IsFalse, List, [], ◌∷◌, ◌++◌, length, map, take, drop, Option, Some, None, option_map, ◌==◌, if◌then◌else◌, codes}
+use Rattle.std.specs.Char.{is_ascii_alphabetic, is_ascii_digit}
 use Rattle.std.specs.List.{list_all, prefix_len}
+use Prim.Native.Char.{code}
 use Rattle.x86_subset.specs.declared.token.Cut.{Cut}
 use Rattle.x86_subset.specs.declared.token.Token.{Token}
 use Rattle.x86_subset.specs.declared.token.TokenKind.{TokenKind}
 use Rattle.x86_subset.specs.declared.token.TokenKind.TheVariants.{Name, Number, Left, Right, LeftSquare, RightSquare, LeftBrace, RightBrace, Semi, Bar, Comma, Colon, Equal, Dollar, Tilde, Both, Either, Other}
 
--- ---- bytes
+-- ---- bytes: `code "x"` is that of the character x, and `codes` are those of a text
 
 -- a space, a tab, a CR or an LF
 unfoldable pub is_blank : ℕ → Bool
-is_blank b = b == 32 || b == 9 || b == 13 || b == 10
+is_blank b = b == code " " || b == code "\t" || b == code "\r" || b == code "\n"
 
--- 0 to 9
-unfoldable pub is_digit : ℕ → Bool
-is_digit b = nat_le 48 b && nat_le b 57
-
--- A to Z and a to z
-unfoldable pub is_letter : ℕ → Bool
-is_letter b = (nat_le 65 b && nat_le b 90) || (nat_le 97 b && nat_le b 122)
-
--- what begins a name
+-- what begins a name: a letter or `_`
 unfoldable pub is_head : ℕ → Bool
-is_head b = is_letter b || b == 95
+is_head b = is_ascii_alphabetic b || b == code "_"
 
--- what goes on with a name
+-- what goes on with a name: a letter, `_` or a digit
 unfoldable pub is_tail : ℕ → Bool
-is_tail b = is_head b || is_digit b
+is_tail b = is_head b || is_ascii_digit b
 
 -- the next byte is of this class
 abbrev pub begins : (ℕ → Bool) → List ℕ → Bool
@@ -48,15 +43,15 @@ spot place line = record { place = place; line = line }
 abbrev pub start : Spot
 start = spot 0 1
 
--- the line of the byte behind one of this line
+-- the line of the byte after one of this line
 abbrev pub line_after : ℕ → ℕ → ℕ
-line_after line b = if b == 10 then line + 1 else line
+line_after line b = if b == code "\n" then line + 1 else line
 
--- behind a byte
+-- after a byte
 abbrev pub after_byte : Spot → ℕ → Spot
 after_byte at b = spot (at.place + 1) (line_after at.line b)
 
--- behind these bytes
+-- after these bytes
 abbrev pub after_bytes : Spot → List ℕ → Spot
 after_bytes at [] = at
 after_bytes at (b ∷ bs) = after_bytes (after_byte at b) bs
@@ -76,7 +71,7 @@ lexeme kind spelled at = record { kind = kind; spelled = spelled; from = at.plac
 
 -- a byte and the next one end a comment
 abbrev pub ends_comment : ℕ → List ℕ → Bool
-ends_comment b next = b == 42 && begins (λ c. c == 41) next
+ends_comment b next = b == code "*" && begins (λ c. c == code ")") next
 
 -- the end of a comment stands in these bytes
 abbrev pub closes : List ℕ → Bool
@@ -86,44 +81,56 @@ closes (b ∷ bs) = ends_comment b bs || closes bs
 -- what one byte alone is
 unfoldable pub sign : ℕ → TokenKind
 sign b =
-    if b == 40 then Left else if b == 41 then Right else if b == 91 then LeftSquare else if b == 93 then RightSquare else
-    if b == 123 then LeftBrace else if b == 125 then RightBrace else if b == 59 then Semi else if b == 124 then Bar else
-    if b == 44 then Comma else if b == 58 then Colon else if b == 61 then Equal else if b == 36 then Dollar else
-    if b == 126 then Tilde else Other
+    if b == code "(" then Left else if b == code ")" then Right else if b == code "[" then LeftSquare else
+    if b == code "]" then RightSquare else if b == code "{" then LeftBrace else if b == code "}" then RightBrace else
+    if b == code ";" then Semi else if b == code "|" then Bar else if b == code "," then Comma else
+    if b == code ":" then Colon else if b == code "=" then Equal else if b == code "$" then Dollar else
+    if b == code "~" then Tilde else Other
 
 -- two bytes that mean something together: the beginning of a comment, and the two slashes in either order
 unfoldable pub is_pair : ℕ → List ℕ → Bool
-is_pair b next = (b == 40 && begins (λ c. c == 42) next) || (b == 47 && begins (λ c. c == 92) next) || (b == 92 && begins (λ c. c == 47) next)
+is_pair b next =
+    (b == code "(" && begins (λ c. c == code "*") next) || (b == code "/" && begins (λ c. c == code "\\") next)
+    || (b == code "\\" && begins (λ c. c == code "/") next)
 
 -- a byte that begins neither a blank nor a name nor a number
 unfoldable pub is_single : ℕ → Bool
-is_single b = if is_blank b || is_head b || is_digit b then false else true
+is_single b = if is_blank b || is_head b || is_ascii_digit b then false else true
 
--- `Lexes at text tokens`: the text, which begins there, is cut into these tokens. Each rule takes one piece off the front.
+-- `Lexes at text tokens`: the text, which begins there, is cut into these tokens. Each rule takes one piece off the
+-- front.
 pub data Lexes : Spot → List ℕ → List Lexeme → Type 0 where
   -- the end
   ended : {at : Spot} → Lexes at [] []
   -- a blank
-  blank : {at : Spot} {b : ℕ} {rest : List ℕ} {ts : List Lexeme} → IsTrue (is_blank b) → Lexes (after_byte at b) rest ts → Lexes at (b ∷ rest) ts
+  blank : {at : Spot} {b : ℕ} {rest : List ℕ} {ts : List Lexeme} → IsTrue (is_blank b) → Lexes (after_byte at b) rest ts
+      → Lexes at (b ∷ rest) ts
   -- a comment, to its first end
   comment : {at : Spot} (inside rest : List ℕ) {ts : List Lexeme} → IsFalse (closes inside)
-      → Lexes (after_bytes at (40 ∷ 42 ∷ (inside ++ 42 ∷ 41 ∷ []))) rest ts → Lexes at (40 ∷ 42 ∷ (inside ++ 42 ∷ 41 ∷ rest)) ts
+      → Lexes (after_bytes at (codes "(*" ++ inside ++ codes "*)")) rest ts
+      → Lexes at (codes "(*" ++ inside ++ (codes "*)" ++ rest)) ts
   -- a name, as long as it goes on
-  name : {at : Spot} {b : ℕ} (more rest : List ℕ) {ts : List Lexeme} → IsTrue (is_head b) → IsTrue (list_all is_tail more) → IsFalse (begins is_tail rest)
+  name : {at : Spot} {b : ℕ} (more rest : List ℕ) {ts : List Lexeme} → IsTrue (is_head b)
+      → IsTrue (list_all is_tail more) → IsFalse (begins is_tail rest)
       → Lexes (after_bytes at (b ∷ more)) rest ts → Lexes at (b ∷ (more ++ rest)) (lexeme Name (b ∷ more) at ∷ ts)
   -- a number, as long as it goes on
-  number : {at : Spot} {b : ℕ} (more rest : List ℕ) {ts : List Lexeme} → IsTrue (is_digit b) → IsTrue (list_all is_digit more) → IsFalse (begins is_digit rest)
+  number : {at : Spot} {b : ℕ} (more rest : List ℕ) {ts : List Lexeme} → IsTrue (is_ascii_digit b)
+      → IsTrue (list_all is_ascii_digit more)
+      → IsFalse (begins is_ascii_digit rest)
       → Lexes (after_bytes at (b ∷ more)) rest ts → Lexes at (b ∷ (more ++ rest)) (lexeme Number (b ∷ more) at ∷ ts)
   -- `/\`
-  both : {at : Spot} {rest : List ℕ} {ts : List Lexeme} → Lexes (after_bytes at (47 ∷ 92 ∷ [])) rest ts → Lexes at (47 ∷ 92 ∷ rest) (lexeme Both (47 ∷ 92 ∷ []) at ∷ ts)
+  both : {at : Spot} {rest : List ℕ} {ts : List Lexeme} → Lexes (after_bytes at (codes "/\\")) rest ts
+      → Lexes at (codes "/\\" ++ rest) (lexeme Both (codes "/\\") at ∷ ts)
   -- `\/`
-  either : {at : Spot} {rest : List ℕ} {ts : List Lexeme} → Lexes (after_bytes at (92 ∷ 47 ∷ [])) rest ts → Lexes at (92 ∷ 47 ∷ rest) (lexeme Either (92 ∷ 47 ∷ []) at ∷ ts)
+  either : {at : Spot} {rest : List ℕ} {ts : List Lexeme} → Lexes (after_bytes at (codes "\\/")) rest ts
+      → Lexes at (codes "\\/" ++ rest) (lexeme Either (codes "\\/") at ∷ ts)
   -- one symbol, or any other byte
   single : {at : Spot} {b : ℕ} {rest : List ℕ} {ts : List Lexeme} → IsTrue (is_single b) → IsFalse (is_pair b rest)
       → Lexes (after_byte at b) rest ts → Lexes at (b ∷ rest) (lexeme (sign b) (b ∷ []) at ∷ ts)
   -- the parenthesis of a comment that is never closed
   unclosed : {at : Spot} {rest : List ℕ} {ts : List Lexeme} → IsFalse (closes rest)
-      → Lexes (after_byte at 40) (42 ∷ rest) ts → Lexes at (40 ∷ 42 ∷ rest) (lexeme Other (40 ∷ []) at ∷ ts)
+      → Lexes (after_byte at (code "(")) (codes "*" ++ rest) ts
+      → Lexes at (codes "(*" ++ rest) (lexeme Other (codes "(") at ∷ ts)
 
 -- ---- the same as a function
 
@@ -151,14 +158,15 @@ comment_cut (Some n) = nothing (suc n)
 
 -- what two bytes that mean something together begin
 unfoldable pub pair_cut : ℕ → List ℕ → Cut
-pair_cut b next = if b == 40 then comment_cut (close_end (drop 1 next)) else token (if b == 47 then Both else Either) 1
+pair_cut b next =
+    if b == code "(" then comment_cut (close_end (drop 1 next)) else token (if b == code "/" then Both else Either) 1
 
 -- what begins at a byte
 unfoldable pub cut_at : ℕ → List ℕ → Cut
 cut_at b next =
     if is_blank b then nothing 0 else
     if is_head b then token Name (prefix_len is_tail next) else
-    if is_digit b then token Number (prefix_len is_digit next) else
+    if is_ascii_digit b then token Number (prefix_len is_ascii_digit next) else
     if is_pair b next then pair_cut b next else token (sign b) 0
 
 -- the token in front of the others, if there is one

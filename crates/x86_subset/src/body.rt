@@ -1,4 +1,4 @@
-// The body of one thread.
+//! The body of one thread.
 use crate::instr::{Instr, Reg};
 use perp_base::NoMemory;
 use std::alloc::Global;
@@ -91,7 +91,7 @@ impl Body {
         self.registers[reg as usize] = Held::Constant(value);
     }
 
-    /// Adds an action behind the others. A load or exchange makes its register hold what it reads.
+    /// Adds an action after the others. A load or exchange makes its register hold what it reads.
     /// `NoMemory` leaves the body as it was.
     pub fn add(&mut self, instr: Instr) -> Result<(), NoMemory>
         ensures ok { OnOk result (self.new ≡ added self.old instr) }

@@ -1,15 +1,15 @@
-// The cells of the code.
+//! The cells of the code.
 ghost use Rattle.std.specs.Prelude.{◌≡◌, ◌^◌, nat_lt, if◌then◌else◌, Ok, Err, option_map};
-ghost use Rattle.x86_subset.specs.declared.cell.InstrError.TheVariants.{Number};
+ghost use Rattle.x86_subset.specs.declared.cell.InstrError.TheVariants.{TooLarge};
 ghost use Rattle.x86_subset.specs.Form.{lexemes, meaning, Gives};
 ghost use Rattle.x86_subset.specs.Cell.{begins_instr, exchange_rows, parse};
 ghost use Rattle.x86_subset.specs.Raw.{form_of};
 
-use crate::form::{Keyword, Slot, Span, is_keyword, whole};
+use crate::form::{Keyword, Slot, Span, whole};
 use crate::instr::Reg;
 use crate::token::{Token, TokenKind};
 
-/// What a cell says, with locations by their bytes in the text. `value` is the number behind `$` or without it.
+/// What a cell says, with locations by their bytes in the text. `value` is the number after `$` or without it.
 #[derive(Clone, Copy, Debug, PartialEq, Eq)]
 pub enum Raw {
     /// No token.
@@ -33,10 +33,10 @@ pub enum Raw {
 pub enum InstrError {
     /// The first token is not MOV, MFENCE or XCHG.
     Unknown,
-    /// The tokens behind it have none of the forms.
+    /// The tokens after it have none of the forms.
     Operand,
     /// They have one, and its number is above 4,294,967,295.
-    Number,
+    TooLarge,
 }
 
 const STORE_NUMBER: [Slot; 7] = [
@@ -101,25 +101,21 @@ fn begins_instr(bytes: &[u8], cell: &[Token]) -> bool
     match cell {
         [] => false,
         [t, ..] => {
-            is_keyword(bytes, Keyword::Mov, t)
-                || is_keyword(bytes, Keyword::Mfence, t)
-                || is_keyword(bytes, Keyword::Xchg, t)
+            t.is_keyword(bytes, Keyword::Mov)
+                || t.is_keyword(bytes, Keyword::Mfence)
+                || t.is_keyword(bytes, Keyword::Xchg)
         }
     }
 }
 
-// A number of 32 bits.
+/// A number of 32 bits.
 fn small(number: u64) -> Result<u32, InstrError>
-    ensures { result ≡ (if nat_lt number (2 ^ 32) then Ok number else Err Number) }
+    ensures { result ≡ (if nat_lt number (2 ^ 32) then Ok number else Err TooLarge) }
 {
-    if number < 1 << 32 {
-        Ok(number as u32)
-    } else {
-        Err(InstrError::Number)
-    }
+    u32::try_from(number).map_err(|_| InstrError::TooLarge)
 }
 
-// What the tokens of a cell say that is an exchange, with its operands in either order.
+/// What the tokens of a cell say that is an exchange, with its operands in either order.
 #[tactic(auto, unfolding(crate::specs::Form::meaning))]
 fn exchange(bytes: &[u8], cell: &[Token]) -> Option<Raw>
     ensures { option_map (form_of bytes.now) result ≡ meaning exchange_rows (lexemes bytes.now cell.now) }

@@ -1,8 +1,7 @@
-// The forms that tokens may have.
+//! The forms that tokens may have.
 ghost use Rattle.std.specs.Prelude.{ℕ, List, ◌≡◌, ◌==◌, ◌≤◌, ◌<◌, ◌+◌, ◌-◌, ◌^◌, length, take, drop, map, min, Result, Ok, Err, Some, None, option_map, if◌then◌else◌};
-ghost use Rattle.std.specs.List.{list_all, zip};
 ghost use Rattle.x86_subset.specs.Raw.{bytes_at};
-ghost use Rattle.x86_subset.specs.Form.{is, is_keyword, is_location, register_named, number_in, small_number_in, place_of, kind_code, capital, register_of, letters, value, capped_number, spells, fill, may_miss, fit, lexeme_of, lexemes, found_of, nothing_found, nothing_at, whole, Fills, fill_first, Gives};
+ghost use Rattle.x86_subset.specs.Form.{is_keyword, is_location, is_word, register_named, number_in, small_number_in, span_of, kind_code, register_of, letters, value, capped_number, spells, fill, may_miss, fit, lexeme_of, lexemes, found_of, nothing_found, nothing_at, whole, Fills, fill_first, Gives};
 
 use crate::instr::Reg;
 use crate::token::{Token, TokenKind};
@@ -12,6 +11,20 @@ use crate::token::{Token, TokenKind};
 pub struct Span {
     pub from: u32,
     pub to: u32,
+}
+
+impl Span {
+    ghost use Rattle.x86_subset.specs.Conjunctions.{from_of, to_of};
+
+    /// The items of a conjunction. `ends` has for each conjunction the number of all items up to its end.
+    pub fn of_conjunction(ends: &[u32], c: usize) -> Span
+        requires { c < length ends.now }
+        ensures from { result.from ≡ from_of ends.now c }
+        ensures to { result.to ≡ to_of ends.now c }
+    {
+        let from = if c == 0 { 0 } else { ends[c - 1] };
+        Span { from, to: ends[c] }
+    }
 }
 
 /// A mnemonic.
@@ -63,45 +76,11 @@ pub fn text_at(bytes: &[u8], s: Span) -> &[u8]
     &bytes[from..to]
 }
 
-/// Where the token stands in the text.
-fn span_of(t: &Token) -> Span
-    ensures { result ≡ place_of t.now }
-{
-    Span {
-        from: t.from,
-        to: t.to,
-    }
-}
-
-/// The token's bytes in the text.
-pub fn spelled<'a>(bytes: &'a [u8], t: &Token) -> &'a [u8]
-    ensures { result.now ≡ take (t.now.to - t.now.from) (drop t.now.from bytes.now) }
-{
-    text_at(bytes, span_of(t))
-}
-
-#[tactic(auto, unfolding(crate::specs::Form::capital))]
-fn capital(b: u8) -> u8
-    ensures { result ≡ capital b }
-{
-    if b'a' <= b && b <= b'z' { b - 32 } else { b }
-}
-
-/// Byte by byte, as far as both go.
-fn matches_word(bytes: &[u8], word: &[u8]) -> bool
-    ensures { result ≡ list_all (λ p. capital p.0 == p.1) (zip bytes.now word.now) }
-{
-    bytes
-        .iter()
-        .zip(word.iter())
-        .all(|(b, w)| capital(*b) == *w)
-}
-
 /// The bytes are the word, in letters of either case.
 fn spells(bytes: &[u8], word: &[u8]) -> bool
     ensures { result ≡ spells word.now bytes.now }
 {
-    bytes.len() == word.len() && matches_word(bytes, word)
+    bytes.eq_ignore_ascii_case(word)
 }
 
 impl Reg {
@@ -144,67 +123,88 @@ fn value(digits: &[u8]) -> u64
 {
     let mut value = 0;
     for b in digits {
-        value = (value * 10 + b.saturating_sub(48) as u64).min(1 << 32);
+        value = (value * 10 + b.saturating_sub(b'0') as u64).min(1 << 32);
     }
     value
 }
 
-/// Whether the token has this kind.
-pub fn is(kind: TokenKind, t: &Token) -> bool
-    ensures { result ≡ (kind_code t.now.kind == kind_code kind) }
-{
-    t.kind as u8 == kind as u8
-}
-
-/// Whether the token is the mnemonic, in letters of either case.
-pub fn is_keyword(bytes: &[u8], word: Keyword, t: &Token) -> bool
-    ensures { result ≡ is_keyword word (lexeme_of bytes.now t.now) }
-{
-    is(TokenKind::Name, t) && spells(spelled(bytes, t), letters(word))
-}
-
-/// The place of a name that is no register's; `None` exactly for any other token.
-fn location(bytes: &[u8], t: &Token) -> Option<Span>
-    ensures { result ≡ (if is_location (lexeme_of bytes.now t.now) then Some (place_of t.now) else None) }
-{
-    if is(TokenKind::Name, t) && Reg::of(spelled(bytes, t)).is_none() {
-        Some(span_of(t))
-    } else {
-        None
+impl Token {
+    /// Whether the token has this kind.
+    pub fn is(&self, kind: TokenKind) -> bool
+        ensures { result ≡ (kind_code self.now.kind == kind_code kind) }
+    {
+        self.kind as u8 == kind as u8
     }
-}
 
-/// The register that the token names, in letters of either case; `None` exactly where it names none.
-fn register(bytes: &[u8], t: &Token) -> Option<Reg>
-    ensures { result ≡ register_named (lexeme_of bytes.now t.now) }
-{
-    if is(TokenKind::Name, t) {
-        Reg::of(spelled(bytes, t))
-    } else {
-        None
+    /// Where the token stands in the text.
+    fn span(&self) -> Span
+        ensures { result ≡ span_of self.now }
+    {
+        Span {
+            from: self.from,
+            to: self.to,
+        }
     }
-}
 
-/// The value of a number, or 2^32 for any larger one; `None` exactly for any other token.
-fn number(bytes: &[u8], t: &Token) -> Option<u64>
-    ensures { result ≡ number_in (lexeme_of bytes.now t.now) }
-{
-    if is(TokenKind::Number, t) {
-        Some(value(spelled(bytes, t)))
-    } else {
-        None
+    /// The token's bytes in the text.
+    pub fn spelled<'a>(&self, bytes: &'a [u8]) -> &'a [u8]
+        ensures { result.now ≡ take (self.now.to - self.now.from) (drop self.now.from bytes.now) }
+    {
+        text_at(bytes, self.span())
     }
-}
 
-/// The value of a number of 32 bits; `None` exactly for any other token.
-fn small_number(bytes: &[u8], t: &Token) -> Option<u32>
-    ensures { result ≡ small_number_in (lexeme_of bytes.now t.now) }
-{
-    let number = number(bytes, t)?;
-    if number < 1 << 32 {
-        Some(number as u32)
-    } else {
-        None
+    /// Whether the token is this word, letter by letter.
+    pub fn is_word(&self, bytes: &[u8], word: &[u8]) -> bool
+        ensures { result ≡ is_word word.now (lexeme_of bytes.now self.now) }
+    {
+        self.is(TokenKind::Name) && self.spelled(bytes) == word
+    }
+
+    /// Whether the token is the mnemonic, in letters of either case.
+    pub(crate) fn is_keyword(&self, bytes: &[u8], word: Keyword) -> bool
+        ensures { result ≡ is_keyword word (lexeme_of bytes.now self.now) }
+    {
+        self.is(TokenKind::Name) && spells(self.spelled(bytes), letters(word))
+    }
+
+    /// The place of a name that is no register's; `None` exactly for any other token.
+    fn location(&self, bytes: &[u8]) -> Option<Span>
+        ensures { result ≡ (if is_location (lexeme_of bytes.now self.now) then Some (span_of self.now) else None) }
+    {
+        if self.is(TokenKind::Name) && Reg::of(self.spelled(bytes)).is_none() {
+            Some(self.span())
+        } else {
+            None
+        }
+    }
+
+    /// The register that the token names, in letters of either case; `None` exactly where it names none.
+    fn register(&self, bytes: &[u8]) -> Option<Reg>
+        ensures { result ≡ register_named (lexeme_of bytes.now self.now) }
+    {
+        if self.is(TokenKind::Name) {
+            Reg::of(self.spelled(bytes))
+        } else {
+            None
+        }
+    }
+
+    /// The value of a number, or 2^32 for any larger one; `None` exactly for any other token.
+    fn number(&self, bytes: &[u8]) -> Option<u64>
+        ensures { result ≡ number_in (lexeme_of bytes.now self.now) }
+    {
+        if self.is(TokenKind::Number) {
+            Some(value(self.spelled(bytes)))
+        } else {
+            None
+        }
+    }
+
+    /// The value of a number of 32 bits; `None` exactly for any other token.
+    fn small_number(&self, bytes: &[u8]) -> Option<u32>
+        ensures { result ≡ small_number_in (lexeme_of bytes.now self.now) }
+    {
+        u32::try_from(self.number(bytes)?).ok()
     }
 }
 
@@ -215,26 +215,26 @@ impl Slot {
         ensures { Fills bytes.now result (fill self (lexeme_of bytes.now t.now) (found_of bytes.now found)) }
     {
         match self {
-            Slot::Mark(kind) | Slot::Maybe(kind) => is(kind, t).then_some(found),
-            Slot::Word(word) => is_keyword(bytes, word, t).then_some(found),
+            Slot::Mark(kind) | Slot::Maybe(kind) => t.is(kind).then_some(found),
+            Slot::Word(word) => t.is_keyword(bytes, word).then_some(found),
             Slot::Location => Some(Found {
-                location: location(bytes, t)?,
+                location: t.location(bytes)?,
                 ..found
             }),
             Slot::Register => Some(Found {
-                register: register(bytes, t)?,
+                register: t.register(bytes)?,
                 ..found
             }),
             Slot::Any => Some(Found {
-                number: number(bytes, t)?,
+                number: t.number(bytes)?,
                 ..found
             }),
             Slot::Small => Some(Found {
-                small: small_number(bytes, t)?,
+                small: t.small_number(bytes)?,
                 ..found
             }),
             Slot::Thread => Some(Found {
-                thread: small_number(bytes, t)?,
+                thread: t.small_number(bytes)?,
                 ..found
             }),
         }
@@ -254,14 +254,12 @@ impl Slot {
         tokens: &'a [Token],
         found: Found,
     ) -> Option<(Found, &'a [Token])>
-        ensures { fill_first self (lexemes bytes.now tokens.now) (found_of bytes.now found) ≡ option_map (λ x. (found_of bytes.now x.0, lexemes bytes.now x.1.now)) result }
+        ensures { fill_first self (lexemes bytes.now tokens.now) (found_of bytes.now found)
+            ≡ option_map (λ x. (found_of bytes.now x.0, lexemes bytes.now x.1.now)) result }
     {
         match tokens {
             [] => None,
-            [t, rest @ ..] => match self.fill(bytes, t, found) {
-                None => None,
-                Some(more) => Some((more, rest)),
-            },
+            [t, rest @ ..] => Some((self.fill(bytes, t, found)?, rest)),
         }
     }
 }
@@ -281,14 +279,15 @@ impl Found {
     }
 }
 
-/// Fills the slots with tokens in order. `Ok` is what was found, and the tokens behind; `Err` is the tokens
+/// Fills the slots with tokens in order. `Ok` is what was found, and the tokens after; `Err` is the tokens
 /// from the first on that does not fit.
 pub fn fit<'a>(
     bytes: &[u8],
     slots: &[Slot],
     tokens: &'a [Token],
 ) -> Result<(Found, &'a [Token]), &'a [Token]>
-    ensures { Gives (λ x. (found_of bytes.now x.0, lexemes bytes.now x.1.now)) (λ e. lexemes bytes.now e.now) result (fit slots.now (lexemes bytes.now tokens.now) nothing_found) }
+    ensures { Gives (λ x. (found_of bytes.now x.0, lexemes bytes.now x.1.now)) (λ e. lexemes bytes.now e.now) result
+        (fit slots.now (lexemes bytes.now tokens.now) nothing_found) }
 {
     let mut found = Found::nothing();
     let mut rest = tokens;

@@ -1,6 +1,6 @@
-// Registers and instructions.
+//! Registers and instructions.
 ghost use Rattle.std.specs.Prelude.{◌≡◌};
-ghost use Rattle.x86_subset.specs.Instr.{is_reading};
+ghost use Rattle.x86_subset.specs.Instr.{is_reading, location_of};
 
 /// A 32-bit register of x86 that a test may name.
 #[derive(Clone, Copy, Debug, PartialEq, Eq)]
@@ -29,5 +29,16 @@ impl Instr {
         ensures { result ≡ is_reading self }
     {
         matches!(self, Instr::Load { .. } | Instr::Exchange { .. })
+    }
+
+    /// The number of the location that the action names; `None` exactly for a fence.
+    pub fn location(self) -> Option<u32>
+        ensures { result ≡ location_of self }
+    {
+        match self {
+            Instr::Store { loc, .. } | Instr::Load { loc, .. } | Instr::Exchange { loc, .. } =>
+                Some(loc),
+            Instr::Fence => None,
+        }
     }
 }

@@ -1,4 +1,4 @@
-// Laws of litmus tests and of their texts: each function's clause is one, and its body is empty.
+//! Laws of litmus tests and of their texts: each function's clause is one, and its body is empty.
 ghost use Rattle.x86_subset.specs.Laws.{ConjunctionsHaveTheAtoms, OneParse, OneCut};
 
 /// The conjunctions of a condition have its atoms in order, each once.

@@ -1,7 +1,9 @@
-// Cuts a text into tokens.
+//! Cuts a text into tokens.
 ghost use Rattle.std.specs.Prelude.{◌≡◌, ◌≤◌, ◌<◌, ◌+◌, ◌==◌, ◌++◌, length, take, drop, slice_index, IfOk, IfSome, IsTrue};
+ghost use Rattle.std.specs.Char.{is_ascii_digit};
 ghost use Rattle.std.specs.List.{prefix_len};
-ghost use Rattle.x86_subset.specs.Token.{is_blank, is_digit, is_letter, is_head, is_tail, begins, ends_comment, sign, is_pair, close_end, pair_cut, cut_at, NoEnd, spot, line_after, after_byte, after_bytes, start, tokens_from, tokens_of};
+ghost use Rattle.x86_subset.specs.Token.{is_blank, is_head, is_tail, begins, ends_comment, sign, is_pair, close_end, pair_cut, cut_at, NoEnd, spot, line_after, after_byte, after_bytes, start, tokens_from, tokens_of};
+ghost use Rattle.perp_base.specs.declared.limits.TheConstants.{MOST_BYTES};
 
 use crate::token::{Cut, Token, TokenKind};
 use perp_base::NoMemory;
@@ -15,47 +17,32 @@ pub fn is_blank(b: u8) -> bool
     b == b' ' || b == b'\t' || b == b'\r' || b == b'\n'
 }
 
-#[tactic(auto, unfolding(crate::specs::Token::is_digit))]
-fn is_digit(b: u8) -> bool
-    ensures { result ≡ is_digit b }
-{
-    b'0' <= b && b <= b'9'
-}
-
-/// Whether the byte is a letter of ASCII.
-#[tactic(auto, unfolding(crate::specs::Token::is_letter))]
-pub fn is_letter(b: u8) -> bool
-    ensures { result ≡ is_letter b }
-{
-    b'A' <= b && b <= b'Z' || b'a' <= b && b <= b'z'
-}
-
 #[tactic(auto, unfolding(crate::specs::Token::is_head))]
 fn is_head(b: u8) -> bool
     ensures { result ≡ is_head b }
 {
-    is_letter(b) || b == b'_'
+    b.is_ascii_alphabetic() || b == b'_'
 }
 
 #[tactic(auto, unfolding(crate::specs::Token::is_tail))]
 fn is_tail(b: u8) -> bool
     ensures { result ≡ is_tail b }
 {
-    is_head(b) || is_digit(b)
+    is_head(b) || b.is_ascii_digit()
 }
 
-// How many bytes at the front go on with a name.
+/// How many bytes at the front go on with a name.
 fn name_len(bytes: &[u8]) -> usize
     ensures { result ≡ prefix_len is_tail bytes.now }
 {
     bytes.iter().take_while(|b| is_tail(**b)).count()
 }
 
-// How many bytes at the front are digits.
+/// How many bytes at the front are digits.
 fn number_len(bytes: &[u8]) -> usize
-    ensures { result ≡ prefix_len is_digit bytes.now }
+    ensures { result ≡ prefix_len is_ascii_digit bytes.now }
 {
-    bytes.iter().take_while(|b| is_digit(**b)).count()
+    bytes.iter().take_while(|b| b.is_ascii_digit()).count()
 }
 
 /// Whether this byte is the next one.
@@ -77,7 +64,7 @@ fn ends_comment(b: u8, next: &[u8]) -> bool
 
 /// How many bytes there are up to and with the first `*)`; `None` where there is none.
 pub fn close_end(bytes: &[u8]) -> Option<usize>
-    requires { length bytes.now ≤ 65536 }
+    requires { length bytes.now ≤ MOST_BYTES }
     ensures within { IfSome result (λ n. n ≤ 65537) }
     ensures is { result ≡ close_end bytes.now }
 {
@@ -89,9 +76,9 @@ pub fn close_end(bytes: &[u8]) -> Option<usize>
     None
 }
 
-// The same. `unclosed` keeps that none stands there, and then none is looked for again.
+/// The same. `unclosed` keeps that none stands there, and then none is looked for again.
 fn next_close(bytes: &[u8], unclosed: &mut bool) -> Option<usize>
-    requires few { length bytes.now ≤ 65536 }
+    requires few { length bytes.now ≤ MOST_BYTES }
     requires known { NoEnd unclosed.old bytes.now }
     ensures within { IfSome result (λ n. n ≤ 65537) }
     ensures is { result ≡ close_end bytes.now }
@@ -140,7 +127,7 @@ fn is_pair(b: u8, next: &[u8]) -> bool
 #[tactic(auto, unfolding(crate::specs::Token::pair_cut))]
 fn pair_cut(b: u8, next: &[u8], unclosed: &mut bool) -> Cut
     requires some { 0 < length next.now }
-    requires few { length next.now ≤ 65536 }
+    requires few { length next.now ≤ MOST_BYTES }
     requires known { NoEnd unclosed.old (drop 1 next.now) }
     ensures is { result ≡ pair_cut b next.now }
     ensures known { NoEnd unclosed.new (drop 1 next.now) }
@@ -169,10 +156,10 @@ fn pair_cut(b: u8, next: &[u8], unclosed: &mut bool) -> Cut
     }
 }
 
-// What begins at a byte that these bytes follow.
+/// What begins at a byte that these bytes follow.
 #[tactic(auto, unfolding(crate::specs::Token::cut_at))]
 fn cut_at(b: u8, next: &[u8], unclosed: &mut bool) -> Cut
-    requires few { length next.now ≤ 65536 }
+    requires few { length next.now ≤ MOST_BYTES }
     requires known { NoEnd unclosed.old (drop 1 next.now) }
     ensures is { result ≡ cut_at b next.now }
     ensures known { NoEnd unclosed.new (drop 1 next.now) }
@@ -187,7 +174,7 @@ fn cut_at(b: u8, next: &[u8], unclosed: &mut bool) -> Cut
             kind: Some(TokenKind::Name),
             more: name_len(next),
         }
-    } else if is_digit(b) {
+    } else if b.is_ascii_digit() {
         Cut {
             kind: Some(TokenKind::Number),
             more: number_len(next),
@@ -202,17 +189,17 @@ fn cut_at(b: u8, next: &[u8], unclosed: &mut bool) -> Cut
     }
 }
 
-/// The number of the line of the byte behind `b`, which stands in this line.
+/// The number of the line of the byte after `b`, which stands in this line.
 pub fn next_line(line: u32, b: u8) -> u32
-    requires { line ≤ 65536 }
+    requires { line ≤ MOST_BYTES }
     ensures { result ≡ line_after line b }
 {
     if b == b'\n' { line + 1 } else { line }
 }
 
-/// The number of the line of the byte behind these bytes at the front of a text, from 1.
+/// The number of the line of the byte after these bytes at the front of a text, from 1.
 pub fn line_behind(bytes: &[u8]) -> u32
-    requires { length bytes.now ≤ 65536 }
+    requires { length bytes.now ≤ MOST_BYTES }
     ensures { result ≡ (after_bytes start bytes.now).line }
 {
     let mut line = 1;
@@ -222,8 +209,8 @@ pub fn line_behind(bytes: &[u8]) -> u32
     line
 }
 
-// Adds the token that begins at a place, if one does. The answer is how many bytes behind the
-// place belong to what begins there, or before it. `unclosed` keeps that no comment ends behind it.
+/// Adds the token that begins at a place, if one does. The answer is how many bytes after the
+/// place belong to what begins there, or before it. `unclosed` keeps that no comment ends after it.
 fn put_token(
     tokens: &mut Vec<Token>,
     bytes: &[u8],
@@ -232,7 +219,7 @@ fn put_token(
     skip: usize,
     unclosed: &mut bool,
 ) -> Result<usize, NoMemory>
-    requires few { length bytes.now ≤ 65536 }
+    requires few { length bytes.now ≤ MOST_BYTES }
     requires within { place < length bytes.now }
     requires known { NoEnd unclosed.old (drop (place + 2) bytes.now) }
     ensures known { NoEnd unclosed.new (drop (place + 2) bytes.now) }
@@ -260,7 +247,7 @@ fn put_token(
 /// The tokens of a text from a place on, in order; blanks and comments are left out. The work is linear in
 /// the text: the search for a comment's end that fails is not made again.
 pub fn tokens(alloc: Global, bytes: &[u8], from: usize) -> Result<Vec<Token>, NoMemory>
-    requires few { length bytes.now ≤ 65536 }
+    requires few { length bytes.now ≤ MOST_BYTES }
     requires within { from ≤ length bytes.now }
     ensures { IfOk result (λ ts. ts.items ≡ tokens_of bytes.now from) }
 {

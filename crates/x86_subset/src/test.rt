@@ -1,4 +1,4 @@
-// A litmus test.
+//! A litmus test.
 ghost use Rattle.std.specs.Prelude.{◌≡◌, ◌≤◌, ◌<◌, length, take, count_by, All, IsFalse};
 ghost use Rattle.std.specs.List.{list_any};
 ghost use Rattle.x86_subset.specs.Instr.{is_reading};
@@ -9,7 +9,7 @@ ghost use Rattle.x86_subset.specs.Shape.{is_long};
 use crate::body::Body;
 use crate::form::Span;
 use crate::instr::{Instr, Reg};
-use perp_base::Name;
+use perp_base::{MOST_ACTIONS, MOST_ATOMS, MOST_LOCATIONS, MOST_THREADS, Name};
 use std::marker::Model;
 
 /// How a condition is asked for.
@@ -60,25 +60,39 @@ impl Model for Test {
 
     ghost Value = { LitmusTest };
 
-    ghost view = { λ t. record { name = t.name; locations = t.locations.items; bodies = t.bodies.items; quantifier = t.quantifier; atoms = t.atoms.items; ends = t.ends.items } };
+    ghost view = { λ t. record {
+      name = t.name;
+      locations = t.locations.items;
+      bodies = t.bodies.items;
+      quantifier = t.quantifier;
+      atoms = t.atoms.items;
+      ends = t.ends.items;
+    } };
 
-    ghost invariant = { λ t. IsTest (record { name = t.name; locations = t.locations.items; bodies = t.bodies.items; quantifier = t.quantifier; atoms = t.atoms.items; ends = t.ends.items }) };
+    ghost invariant = { λ t. IsTest (record {
+      name = t.name;
+      locations = t.locations.items;
+      bodies = t.bodies.items;
+      quantifier = t.quantifier;
+      atoms = t.atoms.items;
+      ends = t.ends.items;
+    }) };
 }
 
-// Whether a body has more than 16 actions. Where none has, the registers hold what the bodies read.
+/// Whether a body has more than 16 actions. Where none has, the registers hold what the bodies read.
 fn some_long(bodies: &[Body]) -> bool
     ensures is { result ≡ list_any is_long bodies.now }
     ensures held { IsFalse result → All (λ (code : Code). AreHeld code.actions code.registers) bodies.now }
 {
     for b in bodies {
-        if b.len() > 16 {
+        if b.len() > MOST_ACTIONS {
             return true;
         }
     }
     false
 }
 
-// How many of the actions read.
+/// How many of the actions read.
 fn reads(actions: &[Instr]) -> usize
     ensures { result ≡ count_by is_reading actions.now }
 {
@@ -106,18 +120,25 @@ impl Test {
         requires atoms { 1 ≤ length atoms.items }
         requires located { AreLocated (length locations.items) bodies.items }
         requires ends { AreEnds ends.items (length atoms.items) }
-        ensures { result ≡ if_within_limits (record { name = name; locations = locations.items; bodies = bodies.items; quantifier = quantifier; atoms = atoms.items; ends = ends.items }) }
+        ensures { result ≡ if_within_limits (record {
+          name = name;
+          locations = locations.items;
+          bodies = bodies.items;
+          quantifier = quantifier;
+          atoms = atoms.items;
+          ends = ends.items;
+        }) }
     {
-        if bodies.len() > 8 {
+        if bodies.len() > MOST_THREADS {
             return Err(Shape::Threads);
         }
-        if locations.len() > 16 {
+        if locations.len() > MOST_LOCATIONS {
             return Err(Shape::Locations);
         }
         if some_long(&bodies) {
             return Err(Shape::Instrs);
         }
-        if atoms.len() > 32 {
+        if atoms.len() > MOST_ATOMS {
             return Err(Shape::Atoms);
         }
         Ok(Test {
@@ -219,10 +240,6 @@ impl Test {
         ensures from { result.from ≡ from_of self.now.ends c }
         ensures to { result.to ≡ to_of self.now.ends c }
     {
-        let from = if c == 0 { 0 } else { self.ends[c - 1] };
-        Span {
-            from,
-            to: self.ends[c],
-        }
+        Span::of_conjunction(&self.ends, c)
     }
 }

@@ -1,3 +1,4 @@
+//! A worked test by its parts, and cells that say something or nothing.
 ghost use Rattle.std.specs.Prelude.{IfOk};
 ghost use Rattle.x86_subset.specs.Shape.{IsLocated};
 
@@ -39,7 +40,7 @@ fn atom(value: u32) -> Atom {
     }
 }
 
-// `MOV [x],$1`, `XCHG [y],EAX`, `MFENCE`, `MOV EBX,[y]` with `exists (0:EAX=0 /\ 0:EAX=1 \/ 0:EAX=2)`.
+/// `MOV [x],$1`, `XCHG [y],EAX`, `MFENCE`, `MOV EBX,[y]` with `exists (0:EAX=0 /\ 0:EAX=1 \/ 0:EAX=2)`.
 fn test(alloc: Global) -> Result<Test, Fail> {
     let locations = vec![in alloc; Name::of(alloc, b"x")?, Name::of(alloc, b"y")?]?;
     let atoms = vec![in alloc; atom(0), atom(1), atom(2)]?;
@@ -130,7 +131,7 @@ fn cells_say_what_their_forms_mean(rt: HostRuntime) -> Result<(), Fail> {
 #[test]
 fn cells_of_no_form_are_refused_for_their_cause(rt: HostRuntime) -> Result<(), Fail> {
     let rows: [(&[u8], InstrError); 5] = [
-        (b"MOV EAX,$4294967296", InstrError::Number),
+        (b"MOV EAX,$4294967296", InstrError::TooLarge),
         (b"MFENCE [x]", InstrError::Operand),
         (b"MOV [EAX],$1", InstrError::Operand),
         (b"INC [x]", InstrError::Unknown),

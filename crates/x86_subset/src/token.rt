@@ -1,9 +1,9 @@
-// The tokens of a text.
+//! The tokens of a text.
 
 /// What a token is.
 #[derive(Clone, Copy, Debug, PartialEq, Eq)]
 pub enum TokenKind {
-    /// A letter or `_`, and letters, digits and `_` behind it.
+    /// A letter or `_`, and letters, digits and `_` after it.
     Name,
     /// Digits.
     Number,

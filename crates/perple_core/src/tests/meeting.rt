@@ -1,14 +1,15 @@
-// Gates at which two threads meet: they show that the walkers run beside one another, and that their steps follow their calls.
+//! Gates at which two threads meet: they show that the walkers run beside one another, and that their steps follow
+//! their calls.
 use super::*;
 use std::sync::atomic::{AtomicBool, AtomicU64, Ordering};
 
 const WRF: &str =
     "X86 WRF\n{ }\n P0 | P1 ;\n MOV [x],$1 | MOV EAX,[x] ;\n MFENCE | ;\nexists (1:EAX=0)\n";
 
-// How often a call looks for another one.
+/// How often a call looks for another one.
 const MOST_LOOKS: u32 = 100_000_000;
 
-// Each of two threads' three calls sets its flag, and some then look for the flag of another call.
+/// Each of two threads' three calls sets its flag, and some then look for the flag of another call.
 #[derive(Drop)]
 struct Meeting {
     called: [AtomicBool; 6],
@@ -39,7 +40,7 @@ impl Meeting {
         }
     }
 
-    // All calls came, and none was missed.
+    /// All calls came, and none was missed.
     fn is_passed(&self) -> bool {
         for call in 0..6 {
             if !self.is_called(call) {
@@ -71,7 +72,7 @@ impl Gate for Meeting {
     }
 }
 
-// Which call each of the six looks for, and the two ways in which the report may end.
+/// Which call each of the six looks for, and the two ways in which the report may end.
 const MEETINGS: [([Option<usize>; 6], &str, &str); 2] = [
     // Two calls of each thread look for a call of the other one.
     (
@@ -79,7 +80,8 @@ const MEETINGS: [([Option<usize>; 6], &str, &str); 2] = [
         "Frames 9\nExhaustive 6\nSeen yes\n",
         "Frames 9\nExhaustive 5\nSeen yes\n",
     ),
-    // The reader begins when the writer has done two iterations, and the writer ends when the reader has begun its last one.
+    // The reader begins when the writer has done two iterations, and the writer ends when the reader has begun its last
+    // one.
     (
         [None, None, Some(5), Some(2), None, None],
         "Frames 9\nExhaustive 3\nSeen yes\n",

@@ -1,7 +1,7 @@
-// The rows of the commands that read a section, of `witness`, and of what is refused.
+//! The rows of the commands that read a section, of `witness`, and of what is refused.
 use super::*;
 
-// The words, a test, what stands behind it, the number of the status, and what is written to both sinks.
+/// The words, a test, what stands after it, the number of the status, and what is written to both sinks.
 pub(super) const ROWS: [(&str, &str, &str, u8, &str, &str); 38] = [
     (
         "judge",

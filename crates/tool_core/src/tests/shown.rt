@@ -1,16 +1,26 @@
-// The command `show`: the run that it writes, and what it says where it writes none.
+//! The command `show`: the run that it writes, and what it says where it writes none.
 use super::*;
 
-// Each thread reads the other's word behind a fence, and then its own: the atoms of the first reads are exact or fr atoms,
-// and those of the second are rf atoms of the own newest store.
+/// Each thread reads the other's word after a fence, and then its own: the atoms of the first reads are exact or fr
+/// atoms, and those of the second are rf atoms of the own newest store.
 const TWICE: &str =
     "X86 TWICE\n{ }\n P0 | P1 ;\n MOV [x],$1 | MOV [y],$1 ;\n MFENCE | MFENCE ;\n MOV EAX,[y] | MOV EAX,[x] ;\n MOV EBX,[x] | MOV EBX,[y] ;\n";
 
-// Each thread stores to its own word twice, and reads it and the other's behind a fence.
+/// Each thread stores to its own word twice, and reads it and the other's after a fence.
 const HIDDEN: &str =
     "X86 HIDDEN\n{ }\n P0 | P1 ;\n MOV [x],$1 | MOV [y],$1 ;\n MOV [x],$2 | MOV [y],$2 ;\n MFENCE | MFENCE ;\n MOV EAX,[x] | MOV EAX,[y] ;\n MOV EBX,[y] | MOV EBX,[x] ;\n";
 
-// A test, its condition where the text has none, two lines of the run that is shown, and what `judge` says of that run.
+/// The own store is hidden by the next, whatever the other thread stores.
+const HIDES: &str =
+    "X86 HIDES\n{ }\n P0 | P1 ;\n MOV [x],$1 | MOV [x],$3 ;\n MOV [x],$2 | ;\n MOV EAX,[x] | ;\n";
+
+const COWW: &str =
+    "X86 COWW\n{ }\n P0 ;\n MOV [x],$1 ;\n MOV [x],$2 ;\n MOV EAX,[x] ;\nexists (0:EAX=1)\n";
+
+const LATE: &str = "X86 LATE\n{ }\n P0 ;\n MOV EAX,[x] ;\n MOV [x],$1 ;\nexists (0:EAX=1)\n";
+
+/// A test, its condition where the text has none, two lines of the run that is shown, and what `judge` says of that
+/// run.
 const SHOWN: [(&str, &str, [&str; 2], &str); 6] = [
     (
         SB,
@@ -52,7 +62,7 @@ const SHOWN: [(&str, &str, [&str; 2], &str); 6] = [
     ),
 ];
 
-// The call wrote a section with these lines, and made no step on the field.
+/// The call wrote a section with these lines, and made no step on the field.
 fn is_told(shown: &Called, lines: [&str; 2]) -> bool {
     let Ok(run) = str::from_utf8(shown.out.written()) else {
         return false;
@@ -97,9 +107,9 @@ fn cycles_are_shown(rt: HostRuntime) -> Result<(), Fail> {
     Ok(())
 }
 
-// The words, a test, its condition where the text has none, the number of the status, and what is written to both
-// sinks.
-const UNSHOWN: [(&str, &str, &str, u8, &str, &str); 7] = [
+/// The words, a test, its condition where the text has none, the number of the status, and what is written to both
+/// sinks.
+const UNSHOWN: [(&str, &str, &str, u8, &str, &str); 11] = [
     (
         "show",
         TWO_WRITERS,
@@ -108,12 +118,32 @@ const UNSHOWN: [(&str, &str, &str, u8, &str, &str); 7] = [
         "Undecided 0\n",
         "",
     ),
+    ("show", COWW, "", 0, "Forbidden\nHidden 0 P0 0 P0 2\n", ""),
+    // the store stands after the read
+    ("show", LATE, "", 0, "Forbidden\nHidden 0 P0 1 P0 0\n", ""),
+    (
+        "show",
+        HIDES,
+        "exists (0:EAX=1)\n",
+        0,
+        "Forbidden\nHidden 0 P0 0 P0 2\n",
+        "",
+    ),
+    // the newest own store is read, or what the other thread stores after it
+    (
+        "show",
+        HIDES,
+        "exists (0:EAX=1 \\/ 0:EAX=2)\n",
+        0,
+        "Undecided 1\n",
+        "",
+    ),
     (
         "show",
         HIDDEN,
         "exists (0:EAX=1 \\/ 0:EBX=0 /\\ 1:EBX=0)\n",
         0,
-        "Undecided 0\n",
+        "Forbidden\nHidden 0 P0 0 P0 3\nCycle 1 P0 0 P0 1 P0 3 P0 4 P1 0 P1 1 P1 3 P1 4\n",
         "",
     ),
     (
@@ -121,7 +151,7 @@ const UNSHOWN: [(&str, &str, &str, u8, &str, &str); 7] = [
         HIDDEN,
         "exists (0:EBX=0 /\\ 1:EBX=0 \\/ 1:EAX=1)\n",
         0,
-        "Undecided 1\n",
+        "Forbidden\nCycle 0 P0 0 P0 1 P0 3 P0 4 P1 0 P1 1 P1 3 P1 4\nHidden 1 P1 0 P1 3\n",
         "",
     ),
     (

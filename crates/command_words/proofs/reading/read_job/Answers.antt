@@ -28,15 +28,19 @@ not_memory k differs is = true≢false (sym (ap (λ x. sameb the_type x OutOfMem
 
 pub returns-then-has_stray_word-clause-usage : goal.returns-then-has_stray_word-clause-usage
 returns-then-has_stray_word-clause-usage c = λ _.
-    stray_job (texts c.args.names.now) (drop 1 (map (λ w. string_bytes w) c.args.words.now)) (sym (stray-map (λ w. string_bytes w) c.args.words.now) ∙ sym c.has_stray_word.ensures ∙ c.if-has_stray_word.true)
+    stray_job (texts c.args.names.now) (drop 1 (map (λ w. string_bytes w) c.args.words.now))
+    (sym (stray-map (λ w. string_bytes w) c.args.words.now) ∙ sym c.has_stray_word.ensures
+    ∙ c.if-has_stray_word.true)
 
 pub returns-in-Ok-try_get_matches_from-clause-ok :
     goal.returns-in-Ok-try_get_matches_from-clause-ok
 returns-in-Ok-try_get_matches_from-clause-ok c =
     let no_stray : list_any is_stray (drop 1 (map (λ w. string_bytes w) c.args.words.now)) ≡ false =
     sym (stray-map (λ w. string_bytes w) c.args.words.now) ∙ sym c.has_stray_word.ensures ∙ c.if-has_stray_word.false in
-    let job = taken_job c.in-Ok.command c.as_str.result.now (texts c.args.names.now) c.requires.no_count (map (λ w. string_bytes w) c.args.words.now) c.in-Ok.ensures no_stray
-    c.in-Ok-try_get_matches_from.matches c.job_from.result c.in-Ok-try_get_matches_from.ensures.kinds c.in-Ok-try_get_matches_from.ensures.matches c.job_from.ensures in
+    let job = taken_job c.in-Ok.command c.as_str.result.now (texts c.args.names.now) c.requires.no_count
+    (map (λ w. string_bytes w) c.args.words.now) c.in-Ok.ensures no_stray
+    c.in-Ok-try_get_matches_from.matches c.job_from.result c.in-Ok-try_get_matches_from.ensures.kinds
+    c.in-Ok-try_get_matches_from.ensures.matches c.job_from.ensures in
     ok_job c.job_from.result _ c.ok_or.result job c.ok_or.ensures.value
 
 pub returns-in-Ok-try_get_matches_from-clause-usage :
@@ -44,14 +48,17 @@ pub returns-in-Ok-try_get_matches_from-clause-usage :
 returns-in-Ok-try_get_matches_from-clause-usage c = λ e.
     let no_stray : list_any is_stray (drop 1 (map (λ w. string_bytes w) c.args.words.now)) ≡ false =
     sym (stray-map (λ w. string_bytes w) c.args.words.now) ∙ sym c.has_stray_word.ensures ∙ c.if-has_stray_word.false in
-    let job = taken_job c.in-Ok.command c.as_str.result.now (texts c.args.names.now) c.requires.no_count (map (λ w. string_bytes w) c.args.words.now) c.in-Ok.ensures no_stray
-    c.in-Ok-try_get_matches_from.matches c.job_from.result c.in-Ok-try_get_matches_from.ensures.kinds c.in-Ok-try_get_matches_from.ensures.matches c.job_from.ensures in
+    let job = taken_job c.in-Ok.command c.as_str.result.now (texts c.args.names.now) c.requires.no_count
+    (map (λ w. string_bytes w) c.args.words.now) c.in-Ok.ensures no_stray
+    c.in-Ok-try_get_matches_from.matches c.job_from.result c.in-Ok-try_get_matches_from.ensures.kinds
+    c.in-Ok-try_get_matches_from.ensures.matches c.job_from.ensures in
     sym job ∙ no_job c.job_from.result c.ok_or.result c.ok_or.ensures.value e
 
 pub returns-clause-usage : goal.returns-clause-usage
 returns-clause-usage c = λ _.
     let no_stray : list_any is_stray (drop 1 (map (λ w. string_bytes w) c.args.words.now)) ≡ false =
     sym (stray-map (λ w. string_bytes w) c.args.words.now) ∙ sym c.has_stray_word.ensures ∙ c.if-has_stray_word.false in
-    refused_job c.in-Ok.command c.as_str.result.now (texts c.args.names.now) c.requires.no_count (map (λ w. string_bytes w) c.args.words.now) c.in-Ok.ensures no_stray
+    refused_job c.in-Ok.command c.as_str.result.now (texts c.args.names.now) c.requires.no_count
+    (map (λ w. string_bytes w) c.args.words.now) c.in-Ok.ensures no_stray
     c.in-Err.error c.in-Err.ensures.kinds
     (λ memory. not_memory c.kind.result (sym c.eq.ensures ∙ c.if-eq.false) (c.kind.ensures ∙ memory))

@@ -9,7 +9,8 @@ differs : (text name other : Text) → name ≡ text → (name ≡ other → ⊥
 differs text name other is not = false_from_ne_true (bytes_eq text other) (λ e. not (is ∙ same_text text other e))
 
 -- a first word that is no command's name names no command
-unnamed : {X : Type 0} (f : X → Text) (ws : List X) (d : X) (name : Text) → name ≡ f (get_or ws 0 d) → (name ≡ codes "run" → ⊥) → (name ≡ codes "replay" → ⊥)
+unnamed : {X : Type 0} (f : X → Text) (ws : List X) (d : X) (name : Text) → name ≡ f (get_or ws 0 d)
+    → (name ≡ codes "run" → ⊥) → (name ≡ codes "replay" → ⊥)
     → (name ≡ codes "convert" → ⊥) → (name ≡ codes "demo" → ⊥) → command_of (map f ws) ≡ None
 unnamed f [] d name is not_run not_replay not_convert not_demo = refl
 unnamed f (w ∷ ws) d name is not_run not_replay not_convert not_demo =
@@ -22,5 +23,7 @@ unnamed f (w ∷ ws) d name is not_run not_replay not_convert not_demo =
 
 pub returns-in_default-clause-usage : goal.returns-in_default-clause-usage
 returns-in_default-clause-usage c = λ _.
-    let first : c.as_str.result.now ≡ string_bytes (get_or c.args.words.now 0 c.index-words-0.result) = c.as_str.ensures.value ∙ ap (λ w. string_bytes w) c.index-words-0.is in
-    unnamed (λ w. string_bytes w) c.args.words.now c.index-words-0.result c.as_str.result.now first c.in_default.not-run c.in_default.not-replay c.in_default.not-convert c.in_default.not-demo
+    let first : c.as_str.result.now ≡ string_bytes (get_or c.args.words.now 0
+    c.index-words-0.result) = c.as_str.ensures.value ∙ ap (λ w. string_bytes w) c.index-words-0.is in
+    unnamed (λ w. string_bytes w) c.args.words.now c.index-words-0.result c.as_str.result.now first c.in_default.not-run
+    c.in_default.not-replay c.in_default.not-convert c.in_default.not-demo

@@ -4,4 +4,5 @@ use Rattle.convert_rows.proofs.rows.add_stores.Given as goal
 
 abbrev pub invariant-loop-place : goal.invariant-loop-place
 invariant-loop-place l =
-    l.rows.items ++ rows_in_body (store_rows_at l.test) l.thread l.place (drop l.place l.body) ≡ l.fn.rows.items ++ rows_in_body (store_rows_at l.test) l.thread 0 l.body
+    l.rows.items ++ rows_in_body (store_rows_at l.test) l.thread l.place (drop l.place l.body) ≡ l.fn.rows.items
+    ++ rows_in_body (store_rows_at l.test) l.thread 0 l.body

@@ -15,10 +15,12 @@ progress_after-own-requires-clause-done c =
     let checked = c.args.checked.now in
     let course = c.args.course.now in
     let t = c.args.event.thread in
-    let few = done_few checked.test (kinds_in checked c.args.conjunction) course.threads.items course.memory (map event_of course.events.items) t c.test-test.ensures.checked.test c.requires.course in
+    let few = done_few checked.test (kinds_in checked c.args.conjunction) course.threads.items course.memory
+    (map event_of course.events.items) t c.test-test.ensures.checked.test c.requires.course in
     let a : (marks_of course.threads.items t).done ≤ length (body_of checked.test t) = few.0 in
     let b : length (body_of checked.test t) ≤ 16 = few.1 in
-    let d : c.progress_of.result.done ≡ (marks_of course.threads.items t).done = ap (λ (m : Mark). m.done) c.progress_of.ensures in
+    let d : c.progress_of.result.done ≡ (marks_of course.threads.items t).done = ap
+    (λ (m : Mark). m.done) c.progress_of.ensures in
     omega arith
 
 pub progress_after-own-requires-clause-place : goal.progress_after-own-requires-clause-place
@@ -26,7 +28,8 @@ progress_after-own-requires-clause-place c =
     let checked = c.args.checked.now in
     let course = c.args.course.now in
     let t = c.args.event.thread in
-    let few = done_few checked.test (kinds_in checked c.args.conjunction) course.threads.items course.memory (map event_of course.events.items) t c.test-test.ensures.checked.test c.requires.course in
+    let few = done_few checked.test (kinds_in checked c.args.conjunction) course.threads.items course.memory
+    (map event_of course.events.items) t c.test-test.ensures.checked.test c.requires.course in
     let b : length (body_of checked.test t) ≤ 16 = few.1 in
     let p : c.args.event.place < length (body_of checked.test t) = c.requires.next.place in
     omega arith
@@ -37,12 +40,16 @@ returns-then-is_write-clause-course c =
     let course = c.args.course.now in
     let e = event_of c.args.event in
     let writes = sym c.is_write.ensures ∙ c.if-is_write.true in
-    let here = c.location-loc.ensures.is ∙ ap (λ (z : LitmusTest). site_location z (record { thread = e.thread; place = e.place })) c.test-test.ensures.is in
-    let value = c.value.ensures ∙ value_written checked.test c.args.sequences.now e c.requires.same (c.requires.next.writes writes) in
-    course_step checked.test (kinds_in checked c.args.conjunction) course.threads.items course.memory (map event_of course.events.items) e c.progress_after-own.result _ _ c.requires.course c.requires.next
+    let here = c.location-loc.ensures.is ∙ ap (λ (z : LitmusTest). site_location z
+    (record { thread = e.thread; place = e.place })) c.test-test.ensures.is in
+    let value = c.value.ensures ∙ value_written checked.test c.args.sequences.now e c.requires.same
+    (c.requires.next.writes writes) in
+    course_step checked.test (kinds_in checked c.args.conjunction) course.threads.items course.memory
+    (map event_of course.events.items) e c.progress_after-own.result _ _ c.requires.course c.requires.next
     (c.progress_after-own.ensures ∙ ap (mark_after e.kind e.place) c.progress_of.ensures)
     (length-set course.memory c.location-loc.result c.value.result ∙ c.requires.course.long)
-    (λ x l. loud_words checked.test e course.memory c.location-loc.result c.value.result x writes here value (let k = c.requires.course.long in omega arith))
+    (λ x l. loud_words checked.test e course.memory c.location-loc.result c.value.result x writes here value
+    (let k = c.requires.course.long in omega arith))
     (ap (map event_of) c.in_ok-push.ensures.items ∙ map-append event_of course.events.items (c.args.event ∷ []))
 
 pub returns-then-is_write-clause-less : goal.returns-then-is_write-clause-less
@@ -50,7 +57,8 @@ returns-then-is_write-clause-less c =
     let checked = c.args.checked.now in
     let course = c.args.course.now in
     let e = event_of c.args.event in
-    step_less checked.test (kinds_in checked c.args.conjunction) course.threads.items course.memory (map event_of course.events.items) e c.progress_after-own.result c.requires.course c.requires.next
+    step_less checked.test (kinds_in checked c.args.conjunction) course.threads.items course.memory
+    (map event_of course.events.items) e c.progress_after-own.result c.requires.course c.requires.next
     (c.progress_after-own.ensures ∙ ap (mark_after e.kind e.place) c.progress_of.ensures)
 
 pub returns-else-is_write-clause-course : goal.returns-else-is_write-clause-course
@@ -58,7 +66,8 @@ returns-else-is_write-clause-course c =
     let checked = c.args.checked.now in
     let course = c.args.course.now in
     let e = event_of c.args.event in
-    course_step checked.test (kinds_in checked c.args.conjunction) course.threads.items course.memory (map event_of course.events.items) e c.progress_after-own.result _ _ c.requires.course c.requires.next
+    course_step checked.test (kinds_in checked c.args.conjunction) course.threads.items course.memory
+    (map event_of course.events.items) e c.progress_after-own.result _ _ c.requires.course c.requires.next
     (c.progress_after-own.ensures ∙ ap (mark_after e.kind e.place) c.progress_of.ensures) c.requires.course.long
     (λ x l. quiet_words checked.test e course.memory x (sym c.is_write.ensures ∙ c.if-is_write.false))
     (ap (map event_of) c.in_ok-push.ensures.items ∙ map-append event_of course.events.items (c.args.event ∷ []))
@@ -68,5 +77,6 @@ returns-else-is_write-clause-less c =
     let checked = c.args.checked.now in
     let course = c.args.course.now in
     let e = event_of c.args.event in
-    step_less checked.test (kinds_in checked c.args.conjunction) course.threads.items course.memory (map event_of course.events.items) e c.progress_after-own.result c.requires.course c.requires.next
+    step_less checked.test (kinds_in checked c.args.conjunction) course.threads.items course.memory
+    (map event_of course.events.items) e c.progress_after-own.result c.requires.course c.requires.next
     (c.progress_after-own.ensures ∙ ap (mark_after e.kind e.place) c.progress_of.ensures)

@@ -6,7 +6,9 @@ pub loop-place-init : goal.loop-place-init
 loop-place-init c = λ i a l m at. absurd (omega arith)
 
 pub loop-place-preserved : goal.loop-place-preserved
-loop-place-preserved c = none_more c.args.test.now c.args.t c.args.own.drained c.loop-place.place c.action_of.result c.loop-place.invariant c.action_of.ensures (sym c.is_storing.ensures ∙ c.if-is_storing.false)
+loop-place-preserved c =
+    none_more c.args.test.now c.args.t c.args.own.drained c.loop-place.place c.action_of.result c.loop-place.invariant
+    c.action_of.ensures (sym c.is_storing.ensures ∙ c.if-is_storing.false)
 
 pub returns-then-is_storing : goal.returns-then-is_storing
 returns-then-is_storing c = record {

@@ -8,5 +8,6 @@ use Rattle.frame_count.proofs.at_frame.holds_at.Given as goal
 
 abbrev pub invariant-loop-c : goal.invariant-loop-c
 invariant-loop-c l =
-    list_any (list_all (cond_holds (value_at l.logs.logs) (with_last l.frame l.m))) (rest_of l.conds.ends l.conds.conds l.c)
+    list_any (list_all (cond_holds (value_at l.logs.logs) (with_last l.frame l.m)))
+    (rest_of l.conds.ends l.conds.conds l.c)
     ≡ frame_holds l.conds l.logs.logs (with_last l.frame l.m)

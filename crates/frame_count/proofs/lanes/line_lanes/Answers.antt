@@ -12,4 +12,5 @@ returns c =
     (lane _ _ _ _ (omega arith) (omega arith)
     (lane _ _ _ _ (omega arith) (omega arith)
     (lane _ _ _ _ (omega arith) (omega arith)
-    (lane _ _ _ _ (omega arith) (omega arith) (lane _ _ _ _ (omega arith) (omega arith) (lane _ _ _ _ (omega arith) (omega arith) (lane _ _ _ _ (omega arith) (omega arith) refl)))))))
+    (lane _ _ _ _ (omega arith) (omega arith) (lane _ _ _ _ (omega arith) (omega arith)
+    (lane _ _ _ _ (omega arith) (omega arith) (lane _ _ _ _ (omega arith) (omega arith) refl)))))))

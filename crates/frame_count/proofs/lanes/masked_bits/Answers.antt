@@ -19,7 +19,9 @@ returns c =
     let digits = c.requires.power.0 in
     let power : k ≡ 2 ^ digits = c.requires.power.2 in
     let long : length (map (λ x. bit_and x low) v) ≡ 8 = length-map v (λ x. bit_and x low) ∙ c.requires.lanes in
-    ap (λ l. mask_l (map (top 63) (zip2 (λ a b. cond (eqb a b) (2 ^ 64 - 1) 0) l (r ∷ r ∷ r ∷ r ∷ r ∷ r ∷ r ∷ r ∷ []))) % 2 ^ 64) (zip2_splat bit_and v 8 low c.requires.lanes)
+    ap (λ l. mask_l (map (top 63) (zip2 (λ a b. cond (eqb a b) (2 ^ 64 - 1) 0) l
+    (r ∷ r ∷ r ∷ r ∷ r ∷ r ∷ r ∷ r ∷ []))) % 2 ^ 64) (zip2_splat bit_and v 8 low c.requires.lanes)
     ∙ bitmask_splat w64 eqb (map (λ x. bit_and x low) v) 8 r long (omega arith)
     ∙ ap mask_l (map-map (λ x. eqb x r) (λ x. bit_and x low) v)
-    ∙ mask_same (λ x. bit_and x low == r) (λ x. x % k == c.args.a % k) (λ x. ap (λ y. y == r) (low_is k digits x power) ∙ ap (λ y. x % k == y) (low_is k digits c.args.a power)) v
+    ∙ mask_same (λ x. bit_and x low == r) (λ x. x % k == c.args.a % k)
+    (λ x. ap (λ y. y == r) (low_is k digits x power) ∙ ap (λ y. x % k == y) (low_is k digits c.args.a power)) v

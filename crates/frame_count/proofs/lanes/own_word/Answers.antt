@@ -13,7 +13,8 @@ returns-then-at_least-eq0 c =
     let least : ℕ → Bool = λ m. nat_le (k * m + a) (v m) in
     let residue : ℕ → Bool = λ m. v m % k == a % k in
     let none : mask_along least c.args.at 64 ≡ 0 = sym c.own_at_least_word-at_least.ensures ∙ c.if-at_least-eq0.true in
-    sym (ap (λ (t : CondKind). mask_along (λ m. kind_holds t (v m) m) c.args.at 64) c.in-AtLeast.is ∙ along_zero least residue c.args.at 64 none)
+    sym (ap (λ (t : CondKind). mask_along (λ m. kind_holds t (v m) m) c.args.at 64) c.in-AtLeast.is
+    ∙ along_zero least residue c.args.at 64 none)
 
 pub returns-else-at_least-eq0 : goal.returns-else-at_least-eq0
 returns-else-at_least-eq0 c =

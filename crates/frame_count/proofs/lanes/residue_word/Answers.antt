@@ -14,7 +14,8 @@ returns-then-k-eq1 c =
     let v = slice_index c.args.values.now in
     let one = c.if-k-eq1.true in
     let all = along_true c.args.at 64 in
-    let same = along_same (λ m. v m % k == c.args.a % k) (λ m. true) c.args.at 64 (λ m. eq-eqb (v m % k) (c.args.a % k) (mod_one (v m) k one ∙ sym (mod_one c.args.a k one))) in
+    let same = along_same (λ m. v m % k == c.args.a % k) (λ m. true) c.args.at 64
+    (λ m. eq-eqb (v m % k) (c.args.a % k) (mod_one (v m) k one ∙ sym (mod_one c.args.a k one))) in
     omega arith
 
 pub masked_word-requires-clause-power : goal.masked_word-requires-clause-power

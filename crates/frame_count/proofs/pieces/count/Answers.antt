@@ -27,8 +27,12 @@ sum-requires-clause-ready g c κs within =
       whole = c.requires.whole;
       names = c.requires.names;
     } in
-    let inside = nat_range-All (λ j. (CanCount c.args.conds.now c.args.logs.now.logs c.args.n c.power-all.result c.args.cut) × (j < c.args.cut) × Tells c.args.conds.now c.args.logs.now.logs c.of-column.result × Counts c.args.conds.now c.args.logs.now.logs c.first_row-row.result) 0 c.args.cut (λ i low high. (can, high, c.of-column.ensures, c.first_row-row.ensures)) in
-    rw (c.with_min_len.ensures.base, c.map.ensures.base, c.map.ensures.f, ends.0, ends.1) (λ k d lt. ((inside k d lt), λ y p. tt))
+    let inside = nat_range-All (λ j. (CanCount c.args.conds.now c.args.logs.now.logs c.args.n c.power-all.result
+    c.args.cut) × (j < c.args.cut) × Tells c.args.conds.now c.args.logs.now.logs c.of-column.result
+    × Counts c.args.conds.now c.args.logs.now.logs c.first_row-row.result) 0 c.args.cut
+    (λ i low high. (can, high, c.of-column.ensures, c.first_row-row.ensures)) in
+    rw (c.with_min_len.ensures.base, c.map.ensures.base, c.map.ensures.f, ends.0, ends.1)
+    (λ k d lt. ((inside k d lt), λ y p. tt))
 
 pub sum-requires-clause-fits : goal.sum-requires-clause-fits
 sum-requires-clause-fits g c κs within xs h =
@@ -53,4 +57,5 @@ returns g c =
     let e = sum_all p c.power-all.result c.args.cut chain.0 done.0 (omega arith) places chain.2 in
     done.2 ∙ e
     ∙ ap (λ k. count_by p (range_with_len 0 k)) (c.power-all.ensures ∙ ap (λ t. c.args.n ^ t) c.requires.threads.0)
-    ∙ ap (count_of (value_at c.args.logs.now.logs) c.args.conds.now.ends c.args.conds.now.conds c.args.n) (sym c.requires.threads.0)
+    ∙ ap (count_of (value_at c.args.logs.now.logs) c.args.conds.now.ends c.args.conds.now.conds c.args.n)
+    (sym c.requires.threads.0)

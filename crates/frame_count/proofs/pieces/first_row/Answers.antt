@@ -1,5 +1,5 @@
 use Rattle.std.proofs.Common.{ap, ◌∙◌, arith}
-use Rattle.seq_conv.specs.Frame.{frame_of}
+use Rattle.tso_machine.specs.Frame.{frame_of}
 use Rattle.frame_count.proofs.Cuts.{frame_is}
 use Rattle.frame_count.proofs.pieces.first_row.Goals as goal
 
@@ -9,7 +9,13 @@ next-requires c =
     let logs = c.args.logs.now.logs in
     let frame = c.frame_of-frame.ensures.frame ∙ ap (λ t. frame_of n t 0) c.len.ensures in
     record {
-      frame = (n, omega arith, omega arith, frame_is n 0 logs c.frame_of-frame.result c.requires.iterations.0 c.requires.iterations.1 c.requires.threads.0 c.requires.whole frame);
+      frame = (
+        n,
+        omega arith,
+        omega arith,
+        frame_is n 0 logs c.frame_of-frame.result c.requires.iterations.0
+            c.requires.iterations.1 c.requires.threads.0 c.requires.whole frame,
+      );
       names = c.requires.names;
       known = c.requires.known;
       counts = c.nothing-counted.ensures c.args.conds.now c.args.logs.now.logs;

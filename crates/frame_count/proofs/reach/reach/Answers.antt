@@ -40,18 +40,25 @@ loop-cond-preserved c =
     let s = c.loop-cond.stretch in
     let t = c.cond_stretch.result in
     let x = get_or xs i _ in
-    let one : 1 ≤ length frame = (let e = c.requires.frame.2.one_each in let f = c.requires.frame.2.some in omega arith) in
-    let row_one : (m : ℕ) → (holds m x && row m x) ≡ holds m x = λ m. row_left (holds m x) (x.reader == last && not (x.writer == last)) in
+    let one : 1 ≤ length frame = (let e = c.requires.frame.2.one_each in let f = c.requires.frame.2.some in omega arith)
+    in
+    let row_one : (m : ℕ) → (holds m x && row m x)
+    ≡ holds m x = λ m. row_left (holds m x) (x.reader == last && not (x.writer == last)) in
     let own_one : (m : ℕ) → (holds m x && own m x) ≡ holds m x = λ m. own_passes logs frame m x one in (
       λ m. a m && holds m x,
       λ m. r m && row m x,
       λ m. o m && own m x,
       λ m lt.
-          one_more (a m) (is_within s m) s.row s.own (r m) (o m) (holds m x) (is_within t m) t.row t.own (row m x) (own m x)
-          (c.loop-cond.invariant.3 m lt) (c.loop-cond.invariant.4 m) (c.loop-cond.invariant.5 m) (c.cond_stretch.ensures.tells m lt) (row_one m) (own_one m)
-          ∙ sym (ap (λ z. z && ((not c.meet-stretch.result.row || (r m && row m x)) && (not c.meet-stretch.result.own || (o m && own m x)))) (c.meet-stretch.ensures.within m)
-          ∙ ap (λ z. (is_within s m && is_within t m) && ((not z || (r m && row m x)) && (not c.meet-stretch.result.own || (o m && own m x)))) c.meet-stretch.ensures.row
-          ∙ ap (λ z. (is_within s m && is_within t m) && ((not (s.row || t.row) || (r m && row m x)) && (not z || (o m && own m x)))) c.meet-stretch.ensures.own),
+          one_more (a m) (is_within s m) s.row s.own (r m) (o m) (holds m x) (is_within t m) t.row t.own (row m x)
+          (own m x)
+          (c.loop-cond.invariant.3 m lt) (c.loop-cond.invariant.4 m) (c.loop-cond.invariant.5 m)
+          (c.cond_stretch.ensures.tells m lt) (row_one m) (own_one m)
+          ∙ sym (ap (λ z. z && ((not c.meet-stretch.result.row || (r m && row m x))
+          && (not c.meet-stretch.result.own || (o m && own m x)))) (c.meet-stretch.ensures.within m)
+          ∙ ap (λ z. (is_within s m && is_within t m) && ((not z || (r m && row m x))
+          && (not c.meet-stretch.result.own || (o m && own m x)))) c.meet-stretch.ensures.row
+          ∙ ap (λ z. (is_within s m && is_within t m) && ((not (s.row || t.row) || (r m && row m x))
+          && (not z || (o m && own m x)))) c.meet-stretch.ensures.own),
       λ m. one_more_left (a m) (r m) (holds m x) (row m x) (c.loop-cond.invariant.4 m) (row_one m),
       λ m. one_more_left (a m) (o m) (holds m x) (own m x) (c.loop-cond.invariant.5 m) (own_one m),
       λ m. all_more (holds m) xs i _ (a m) _ (omega arith) (c.loop-cond.invariant.6 m),
@@ -75,5 +82,6 @@ returns c m lt =
     holds
     ∙ c.loop-cond.invariant.3 m lt
     ∙ sym (ap (λ b. is_within s m && b) (left_splits logs frame s m xs)
-    ∙ ap (λ b. is_within s m && ((not s.row || b) && (not s.own || list_all (own_along logs (length frame - 1) m) xs))) row
+    ∙ ap (λ b. is_within s m && ((not s.row || b) && (not s.own || list_all (own_along logs (length frame - 1) m) xs)))
+    row
     ∙ ap (λ b. is_within s m && ((not s.row || r m) && (not s.own || b))) own)

@@ -7,4 +7,5 @@ use Rattle.frame_count.proofs.reach.reaches.Given as goal
 abbrev pub invariant-loop-c : goal.invariant-loop-c
 invariant-loop-c l =
     (length l.stretches ≡ 8)
-    × ((j : ℕ) (d : Stretch) → j < l.c → Leaves l.n l.logs.logs l.frame (conjunction_of l.conds.ends l.conds.conds j) (get_or l.stretches j d))
+    × ((j : ℕ) (d : Stretch) → j < l.c → Leaves l.n l.logs.logs l.frame (conjunction_of l.conds.ends l.conds.conds j)
+    (get_or l.stretches j d))

@@ -15,8 +15,10 @@ returns-then-writer-len-clause-within c m lt =
     let e = c.len.ensures.value in
     let w = c.requires.frame.3.names.writer in
     let one = c.requires.frame.2.one_each in
-    ap (λ i. kind_holds cond.kind (values i) (iteration_in (with_last frame m) cond.writer)) (stays frame cond.reader m (eqb-false _ _ c.requires.reader))
-    ∙ ap (kind_holds cond.kind (values (slice_index frame cond.reader))) (moves frame cond.writer m (omega arith) (omega arith))
+    ap (λ i. kind_holds cond.kind (values i) (iteration_in (with_last frame m) cond.writer))
+    (stays frame cond.reader m (eqb-false _ _ c.requires.reader))
+    ∙ ap (kind_holds cond.kind (values (slice_index frame cond.reader)))
+    (moves frame cond.writer m (omega arith) (omega arith))
     ∙ ap (λ v. kind_holds cond.kind v m) (sym (c.logged-value.ensures ∙ ap values c.at.ensures))
     ∙ c.of_writer.ensures.within m lt
 
@@ -26,9 +28,12 @@ returns-else-writer-len-clause-within c m lt =
     let frame = c.args.frame.now in
     let values = value_at c.args.logs.now.logs cond.reader cond.column in
     let e = c.len.ensures.value in
-    ap (λ i. kind_holds cond.kind (values i) (iteration_in (with_last frame m) cond.writer)) (stays frame cond.reader m (eqb-false _ _ c.requires.reader))
-    ∙ ap (kind_holds cond.kind (values (slice_index frame cond.reader))) (stays frame cond.writer m (λ same. omega arith))
-    ∙ ap (λ v. kind_holds cond.kind v (slice_index frame cond.writer)) (sym (c.logged-value.ensures ∙ ap values c.at.ensures))
+    ap (λ i. kind_holds cond.kind (values i) (iteration_in (with_last frame m) cond.writer))
+    (stays frame cond.reader m (eqb-false _ _ c.requires.reader))
+    ∙ ap (kind_holds cond.kind (values (slice_index frame cond.reader)))
+    (stays frame cond.writer m (λ same. omega arith))
+    ∙ ap (λ v. kind_holds cond.kind v (slice_index frame cond.writer))
+    (sym (c.logged-value.ensures ∙ ap values c.at.ensures))
     ∙ ap (kind_holds cond.kind c.logged-value.result) (sym c.at-else-writer-len.ensures)
     ∙ sym c.holds.ensures
     ∙ sym (c.all_or_none.ensures.within m lt)

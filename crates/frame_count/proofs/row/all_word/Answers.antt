@@ -10,7 +10,8 @@ pub returns-then-within-eq0 : goal.returns-then-within-eq0
 returns-then-within-eq0 c =
     let s = c.args.stretch in
     let left = λ (m : ℕ). list_all (left_along c.args.logs.now.logs c.args.frame.now s m) c.args.conds.now in
-    sym (along_within (λ m. list_all (holds_along c.args.logs.now.logs c.args.frame.now m) c.args.conds.now) (λ m. is_within s m && left m) c.args.at 64 (λ i lt. c.requires.stretch (c.args.at + i) (omega arith))
+    sym (along_within (λ m. list_all (holds_along c.args.logs.now.logs c.args.frame.now m) c.args.conds.now)
+    (λ m. is_within s m && left m) c.args.at 64 (λ i lt. c.requires.stretch (c.args.at + i) (omega arith))
     ∙ along_zero (is_within s) left c.args.at 64 (sym c.word-within.ensures ∙ c.if-within-eq0.true))
 
 pub returns-then-is_settled : goal.returns-then-is_settled
@@ -18,10 +19,12 @@ returns-then-is_settled c =
     let s = c.args.stretch in
     let settled = c.is_settled.ensures c.if-is_settled.true in
     c.word-within.ensures
-    ∙ sym (along_within (λ m. list_all (holds_along c.args.logs.now.logs c.args.frame.now m) c.args.conds.now) (is_within s) c.args.at 64
+    ∙ sym (along_within (λ m. list_all (holds_along c.args.logs.now.logs c.args.frame.now m) c.args.conds.now)
+    (is_within s) c.args.at 64
     (λ i lt.
     c.requires.stretch (c.args.at + i) (omega arith)
-    ∙ ap (λ b. is_within s (c.args.at + i) && b) (left_settled c.args.logs.now.logs c.args.frame.now s (c.args.at + i) c.args.conds.now settled.0 settled.1)
+    ∙ ap (λ b. is_within s (c.args.at + i) && b) (left_settled c.args.logs.now.logs c.args.frame.now s
+    (c.args.at + i) c.args.conds.now settled.0 settled.1)
     ∙ and_true (is_within s (c.args.at + i))))
 
 pub returns-else-is_settled : goal.returns-else-is_settled
@@ -31,4 +34,5 @@ returns-else-is_settled c =
     ap (λ w. bit_and w c.left_word.result) c.word-within.ensures
     ∙ ap (bit_and (mask_along (is_within s) c.args.at 64)) c.left_word.ensures
     ∙ along_and (is_within s) left c.args.at 64
-    ∙ sym (along_within (λ m. list_all (holds_along c.args.logs.now.logs c.args.frame.now m) c.args.conds.now) (λ m. is_within s m && left m) c.args.at 64 (λ i lt. c.requires.stretch (c.args.at + i) (omega arith)))
+    ∙ sym (along_within (λ m. list_all (holds_along c.args.logs.now.logs c.args.frame.now m) c.args.conds.now)
+    (λ m. is_within s m && left m) c.args.at 64 (λ i lt. c.requires.stretch (c.args.at + i) (omega arith)))

@@ -19,7 +19,9 @@ pub loop-at-preserved : goal.loop-at-preserved
 loop-at-preserved c = record {
   low = omega arith;
   high = omega arith;
-  total = count_join _ c.args.from c.loop-at.at 64 _ _ c.loop-at.invariant.low c.loop-at.invariant.total (ap count_ones c.some_word.ensures ∙ along_ones _ c.loop-at.at 64);
+  total =
+      count_join _ c.args.from c.loop-at.at 64 _ _ c.loop-at.invariant.low c.loop-at.invariant.total
+      (ap count_ones c.some_word.ensures ∙ along_ones _ c.loop-at.at 64);
 }
 
 pub overflow_add-result : goal.overflow_add-result
@@ -35,5 +37,7 @@ pub returns : goal.returns
 returns c =
     let high = c.loop-at.invariant.high in
     let end : c.loop-at.at + (c.args.to - c.loop-at.at) - c.args.from ≡ c.args.to - c.args.from = omega arith in
-    count_join _ c.args.from c.loop-at.at (c.args.to - c.loop-at.at) _ _ c.loop-at.invariant.low c.loop-at.invariant.total c.count_singly.ensures
-    ∙ ap (λ n. count_by (λ m. frame_holds c.args.conds.now c.args.logs.now.logs (with_last c.args.frame.now m)) (range_with_len c.args.from n)) end
+    count_join _ c.args.from c.loop-at.at (c.args.to - c.loop-at.at) _ _ c.loop-at.invariant.low
+    c.loop-at.invariant.total c.count_singly.ensures
+    ∙ ap (λ n. count_by (λ m. frame_holds c.args.conds.now c.args.logs.now.logs (with_last c.args.frame.now m))
+    (range_with_len c.args.from n)) end

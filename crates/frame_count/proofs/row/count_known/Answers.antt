@@ -17,15 +17,19 @@ count-middle-requires-clause-known c j d lt =
     let high = c.requires.frame.2 in
     let to = c.min.ensures in
     let end = c.min-end.ensures in
-    let value : (m : ℕ) → m < n → slice_index c.column-values.result.now m ≡ value_at logs cond.reader cond.column m = λ m l.
-    column_is n logs c.at.result.now c.column-values.result.now cond.reader cond.column m c.requires.frame.3.whole names.reader names.column c.at.ensures.log c.column-values.ensures.values l in
-    knows_moved cond.kind (value_at logs cond.reader cond.column) (slice_index c.column-values.result.now) (64 * j) (get_or c.args.known.now.of j d)
+    let value : (m : ℕ) → m < n → slice_index c.column-values.result.now m
+    ≡ value_at logs cond.reader cond.column m = λ m l.
+    column_is n logs c.at.result.now c.column-values.result.now cond.reader cond.column m c.requires.frame.3.whole
+    names.reader names.column c.at.ensures.log c.column-values.ensures.values l in
+    knows_moved cond.kind (value_at logs cond.reader cond.column) (slice_index c.column-values.result.now) (64 * j)
+    (get_or c.args.known.now.of j d)
     (λ i l. sym (value (64 * j + i) (omega arith))) (c.requires.known.words j d (omega arith))
 
 pub overflow_add-result : goal.overflow_add-result
 overflow_add-result c =
     let p : ℕ → Bool = λ m. frame_holds c.args.conds.now c.args.logs.now.logs (with_last c.args.frame.now m) in
-    let q : ℕ → Bool = λ m. kind_test c.args.known.now.cond.kind (slice_index c.column-values.result.now m) c.bound-bound.result in
+    let q : ℕ → Bool = λ m. kind_test c.args.known.now.cond.kind
+    (slice_index c.column-values.result.now m) c.bound-bound.result in
     let a : ℕ = 64 * c.div_ceil-first.result in
     let b : ℕ = 64 * c.min-end.result in
     let front = c.count_within-front.ensures in
@@ -42,7 +46,8 @@ overflow_add-result c =
 pub overflow_add-result-2 : goal.overflow_add-result-2
 overflow_add-result-2 c =
     let p : ℕ → Bool = λ m. frame_holds c.args.conds.now c.args.logs.now.logs (with_last c.args.frame.now m) in
-    let q : ℕ → Bool = λ m. kind_test c.args.known.now.cond.kind (slice_index c.column-values.result.now m) c.bound-bound.result in
+    let q : ℕ → Bool = λ m. kind_test c.args.known.now.cond.kind
+    (slice_index c.column-values.result.now m) c.bound-bound.result in
     let a : ℕ = 64 * c.div_ceil-first.result in
     let b : ℕ = 64 * c.min-end.result in
     let front = c.count_within-front.ensures in
@@ -82,13 +87,19 @@ returns c =
     let long = c.requires.frame.3.one_each in
     let threads = c.requires.frame.3.some in
     let d : Stretch = record { from = 0; to = 0; row = false; own = false } in
-    let value : (m : ℕ) → m < n → slice_index c.column-values.result.now m ≡ value_at logs cond.reader cond.column m = λ m l.
-    column_is n logs c.at.result.now c.column-values.result.now cond.reader cond.column m c.requires.frame.3.whole names.reader names.column c.at.ensures.log c.column-values.ensures.values l in
+    let value : (m : ℕ) → m < n → slice_index c.column-values.result.now m
+    ≡ value_at logs cond.reader cond.column m = λ m l.
+    column_is n logs c.at.result.now c.column-values.result.now cond.reader cond.column m c.requires.frame.3.whole
+    names.reader names.column c.at.ensures.log c.column-values.ensures.values l in
     let decides : (m : ℕ) → a ≤ m → m < b → q m ≡ p m = λ m low lt.
     ap (λ v. kind_test cond.kind v c.bound-bound.result) (value m (omega arith))
-    ∙ ap (kind_test cond.kind (value_at logs cond.reader cond.column m)) (c.bound-bound.ensures ∙ ap (bound_of cond.kind) c.at-2.ensures)
-    ∙ alone_decides conds logs frame (get_or c.args.stretches.now 0 d) c.args.to m cond one (omega arith) long (c.requires.stretches 0 d (omega arith)) (omega arith)
-    (first_within c.args.stretches.now _ d c.args.from c.args.to c.max.result c.min.result m (omega arith) c.max.ensures c.min.ensures (omega arith) (omega arith))
+    ∙ ap (kind_test cond.kind (value_at logs cond.reader cond.column m))
+    (c.bound-bound.ensures ∙ ap (bound_of cond.kind) c.at-2.ensures)
+    ∙ alone_decides conds logs frame (get_or c.args.stretches.now 0 d) c.args.to m cond one (omega arith) long
+    (c.requires.stretches 0 d (omega arith)) (omega arith)
+    (first_within c.args.stretches.now _ d c.args.from c.args.to c.max.result c.min.result m
+    (omega arith) c.max.ensures c.min.ensures (omega arith) (omega arith))
     (first_row c.args.stretches.now _ d (omega arith) c.if-not-stretch.false) c.requires.known.alone in
     count_three p c.args.from a b c.args.to _ _ _ (omega arith) (omega arith) (omega arith) c.count_within-front.ensures
-    (c.count-middle.ensures ∙ count_moved q p a a (b - a) (λ i lt. decides (a + i) (omega arith) (omega arith))) c.count_within-back.ensures
+    (c.count-middle.ensures ∙ count_moved q p a a (b - a) (λ i lt. decides (a + i) (omega arith) (omega arith)))
+    c.count_within-back.ensures

@@ -10,14 +10,16 @@ overflow_add-total c =
     let p : ℕ → Bool = λ m. frame_holds c.args.conds.now c.args.logs.now.logs (with_last c.args.frame.now m) in
     let h = count_bound p c.args.from (c.loop-at.at - c.args.from) in
     let e = count_bound p c.loop-at.at 1 in
-    let k : bool_byte c.holds_at.result ≡ count_by p (range_with_len c.loop-at.at 1) = ap bool_byte c.holds_at.ensures ∙ byte_one p c.loop-at.at in
+    let k : bool_byte c.holds_at.result ≡ count_by p (range_with_len c.loop-at.at 1) = ap bool_byte c.holds_at.ensures
+    ∙ byte_one p c.loop-at.at in
     let t = c.loop-at.invariant.total in
     record { fits = omega arith }
 
 pub loop-at-preserved : goal.loop-at-preserved
 loop-at-preserved c =
     let p : ℕ → Bool = λ m. frame_holds c.args.conds.now c.args.logs.now.logs (with_last c.args.frame.now m) in
-    let one : bool_byte c.holds_at.result ≡ count_by p (range_with_len c.loop-at.at 1) = ap bool_byte c.holds_at.ensures ∙ byte_one p c.loop-at.at in
+    let one : bool_byte c.holds_at.result ≡ count_by p (range_with_len c.loop-at.at 1) = ap bool_byte c.holds_at.ensures
+    ∙ byte_one p c.loop-at.at in
     record {
       low = omega arith;
       high = omega arith;

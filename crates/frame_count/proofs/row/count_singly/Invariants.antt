@@ -7,7 +7,8 @@ abbrev pub invariant-loop-at : goal.invariant-loop-at
 invariant-loop-at l = record {
   low : l.from ≤ l.at;
   high : l.at ≤ l.to;
-  total : l.total ≡ count_by (λ m. frame_holds l.conds l.logs.logs (with_last l.frame m)) (range_with_len l.from (l.at - l.from));
+  total : l.total ≡ count_by (λ m. frame_holds l.conds l.logs.logs (with_last l.frame m))
+      (range_with_len l.from (l.at - l.from));
 }
 
 abbrev pub decreases-loop-at : goal.decreases-loop-at

@@ -14,7 +14,8 @@ loop-cond-preserved c =
     let xs = c.args.conds.now in
     let i = c.loop-cond.cond-index in (
       λ m. q m && left_along c.args.logs.now.logs c.args.frame.now c.args.stretch m (get_or xs i _),
-      ap (λ w. bit_and w c.one_word-word.result) c.loop-cond.invariant.1 ∙ ap (bit_and (mask_along q c.args.at 64)) c.one_word-word.ensures ∙ along_and q _ c.args.at 64,
+      ap (λ w. bit_and w c.one_word-word.result) c.loop-cond.invariant.1
+          ∙ ap (bit_and (mask_along q c.args.at 64)) c.one_word-word.ensures ∙ along_and q _ c.args.at 64,
       λ m. all_more _ xs i _ (q m) _ (omega arith) (c.loop-cond.invariant.2 m),
     )
 
@@ -25,7 +26,9 @@ returns-then-word-eq0 c =
     let i = c.loop-cond.cond-index in
     let left = λ (m : ℕ). list_all (left_along c.args.logs.now.logs c.args.frame.now c.args.stretch m) in
     let here = λ (m : ℕ). q m && left_along c.args.logs.now.logs c.args.frame.now c.args.stretch m (get_or xs i _) in
-    let both = ap (λ w. bit_and w c.one_word-word.result) c.loop-cond.invariant.1 ∙ ap (bit_and (mask_along q c.args.at 64)) c.one_word-word.ensures ∙ along_and q _ c.args.at 64 in
+    let both = ap (λ w. bit_and w c.one_word-word.result) c.loop-cond.invariant.1
+    ∙ ap (bit_and (mask_along q c.args.at 64)) c.one_word-word.ensures ∙ along_and q _ c.args.at 64 in
     let none : mask_along here c.args.at 64 ≡ 0 = sym both ∙ c.if-word-eq0.true in
-    sym (along_same (λ m. left m xs) (λ m. here m && left m (drop (i + 1) xs)) c.args.at 64 (λ m. all_more _ xs i _ (q m) _ (omega arith) (c.loop-cond.invariant.2 m))
+    sym (along_same (λ m. left m xs) (λ m. here m && left m (drop (i + 1) xs)) c.args.at 64
+    (λ m. all_more _ xs i _ (q m) _ (omega arith) (c.loop-cond.invariant.2 m))
     ∙ along_zero here (λ m. left m (drop (i + 1) xs)) c.args.at 64 none)

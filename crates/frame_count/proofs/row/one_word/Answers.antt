@@ -11,6 +11,7 @@ returns-then-is_left c =
 pub returns-else-is_left : goal.returns-else-is_left
 returns-else-is_left c =
     let all = along_true c.args.at 64 in
-    let same = along_same (λ m. left_along c.args.logs.now.logs c.args.frame.now c.args.stretch m c.args.cond.now) (λ m. true) c.args.at 64
+    let same = along_same (λ m. left_along c.args.logs.now.logs c.args.frame.now c.args.stretch m c.args.cond.now)
+    (λ m. true) c.args.at 64
     (λ m. c.is_left.ensures.passed c.if-is_left.false c.args.logs.now.logs m) in
     omega arith

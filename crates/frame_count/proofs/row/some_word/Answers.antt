@@ -13,7 +13,8 @@ pub loop-c-init : goal.loop-c-init
 loop-c-init c = (
   λ m. false,
   sym (along_false c.args.at 64),
-  λ m. ap (list_any (list_all (cond_holds (value_at c.args.logs.now.logs) (with_last c.args.frame.now m)))) (rest_first c.args.conds.now.ends c.args.conds.now.conds),
+  λ m. ap (list_any (list_all (cond_holds (value_at c.args.logs.now.logs) (with_last c.args.frame.now m))))
+      (rest_first c.args.conds.now.ends c.args.conds.now.conds),
 )
 
 pub loop-c-preserved : goal.loop-c-preserved
@@ -23,8 +24,11 @@ loop-c-preserved c =
     let conds = c.args.conds.now.conds in
     let i = c.loop-c.c in
     let group = c.group.result.now in
-    let rest = rest_next ends conds i (omega arith) ∙ ap (λ g. g ∷ rest_of ends conds (i + 1)) (sym c.group.ensures.value) in (
+    let rest =
+    rest_next ends conds i (omega arith) ∙ ap (λ g. g ∷ rest_of ends conds (i + 1)) (sym c.group.ensures.value) in (
       λ m. q m || list_all (cond_holds (value_at c.args.logs.now.logs) (with_last c.args.frame.now m)) group,
-      ap (λ w. bit_or w c.all_word-word.result) c.loop-c.invariant.1 ∙ ap (bit_or (mask_along q c.args.at 64)) c.all_word-word.ensures ∙ along_or q _ c.args.at 64,
-      λ m. some_more (list_all (cond_holds (value_at c.args.logs.now.logs) (with_last c.args.frame.now m))) group (rest_of ends conds (i + 1)) (rest_of ends conds i) (q m) _ rest (c.loop-c.invariant.2 m),
+      ap (λ w. bit_or w c.all_word-word.result) c.loop-c.invariant.1
+          ∙ ap (bit_or (mask_along q c.args.at 64)) c.all_word-word.ensures ∙ along_or q _ c.args.at 64,
+      λ m. some_more (list_all (cond_holds (value_at c.args.logs.now.logs) (with_last c.args.frame.now m))) group
+          (rest_of ends conds (i + 1)) (rest_of ends conds i) (q m) _ rest (c.loop-c.invariant.2 m),
     )

@@ -11,4 +11,5 @@ abbrev pub invariant-loop-c : goal.invariant-loop-c
 invariant-loop-c l =
     (q : ℕ → Bool) × (l.word ≡ mask_along q l.at 64)
     × ((m : ℕ) → frame_holds l.conds l.logs.logs (with_last l.frame m)
-    ≡ (q m || list_any (list_all (cond_holds (value_at l.logs.logs) (with_last l.frame m))) (rest_of l.conds.ends l.conds.conds l.c)))
+    ≡ (q m || list_any (list_all (cond_holds (value_at l.logs.logs) (with_last l.frame m)))
+    (rest_of l.conds.ends l.conds.conds l.c)))

@@ -12,10 +12,14 @@ loop-c-preserved g c =
     let t = length c.args.logs.now.logs in
     let links = map (link_by (value_at c.args.logs.now.logs) c.args.n) c.args.conds.now.conds in
     ap (λ l. l ++ listed_after t c.args.n c.args.conds.now.ends links (c.loop-c.c + 1)) c.in_ok-append.ensures.items
-    ∙ listed_more t c.args.n c.args.conds.now.ends links c.loop-c.c c.loop-c.all.items c.in_ok-some.some.items _ (omega arith) c.in_ok-some.ensures c.loop-c.invariant
+    ∙ listed_more t c.args.n c.args.conds.now.ends links c.loop-c.c c.loop-c.all.items c.in_ok-some.some.items _
+    (omega arith) c.in_ok-some.ensures c.loop-c.invariant
 
 pub returns : goal.returns
 returns g c =
     let t = length c.args.logs.now.logs in
     let links = map (link_by (value_at c.args.logs.now.logs) c.args.n) c.args.conds.now.conds in
-    record { hits = listed_end t c.args.n c.args.conds.now.ends links c.loop-c.c c.loop-c.all.items _ (omega arith) c.loop-c.invariant }
+    record {
+      hits = listed_end t c.args.n c.args.conds.now.ends links c.loop-c.c c.loop-c.all.items _
+          (omega arith) c.loop-c.invariant;
+    }

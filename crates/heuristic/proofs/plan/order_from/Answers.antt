@@ -37,10 +37,12 @@ loop-preserved c =
     sym (ap (λ l. find (is_open (has_iteration base l)) conds) c.deref.ensures.value)
     ∙ sym c.first_open.ensures ∙ c.in-Some.is in
     let Kinds : Cond → Type 0 = λ d. IsKind d.kind in
-    let kind = found (is_open (has_iteration base order)) Kinds conds next (recursion_from_All Kinds conds c.requires) open_now in
+    let kind = found (is_open (has_iteration base order)) Kinds conds next
+    (recursion_from_All Kinds conds c.requires) open_now in
     let AreKinds : List Cond → Type 0 = All Kinds in
     record {
       rest = ap (λ l. l ++ order_of (length conds - (c.loop.counter + 1)) conds (has_iteration base l)) pushed
-          ∙ order_goes_on (length conds) c.loop.counter conds base order _ next c.loop-test.true open_now c.loop.invariant.rest;
+          ∙ order_goes_on (length conds) c.loop.counter conds base order _ next c.loop-test.true open_now
+          c.loop.invariant.rest;
       kinds = subst AreKinds (sym pushed) (All-push Kinds order next c.loop.invariant.kinds kind.1);
     }

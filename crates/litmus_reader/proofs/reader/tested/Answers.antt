@@ -13,4 +13,6 @@ pub test_of-requires : goal.test_of-requires
 test_of-requires c = sections_fit c.args.bytes.now (draft_of c.args.bytes.now c.in_ok-draft.draft) c.in_ok-draft.ensures
 
 pub returns : goal.returns
-returns c = answered_made c.args.bytes.now (draft_of c.args.bytes.now c.in_ok-draft.draft) c.in_ok-draft.ensures c.test_of.result c.test_of.ensures
+returns c =
+    answered_made c.args.bytes.now (draft_of c.args.bytes.now c.in_ok-draft.draft) c.in_ok-draft.ensures
+    c.test_of.result c.test_of.ensures

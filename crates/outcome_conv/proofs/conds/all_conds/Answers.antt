@@ -16,5 +16,7 @@ loop-i-preserved c =
 pub returns : goal.returns
 returns c =
     let test = c.args.checked.now.test in
-    let atoms : length c.atoms-i-end.result.now ≡ length test.atoms = ap length c.atoms-i-end.ensures ∙ ap (λ t. length t.atoms) c.test-test.ensures.is in
-    c.loop-i.invariant ∙ conds_whole test c.args.checked.now.kinds c.loop-i.i c.test-test.ensures.checked.kinds (omega arith)
+    let atoms : length c.atoms-i-end.result.now ≡ length test.atoms = ap length c.atoms-i-end.ensures
+    ∙ ap (λ t. length t.atoms) c.test-test.ensures.is in
+    c.loop-i.invariant ∙ conds_whole test c.args.checked.now.kinds c.loop-i.i c.test-test.ensures.checked.kinds
+    (omega arith)

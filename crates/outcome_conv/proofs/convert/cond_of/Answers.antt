@@ -4,42 +4,78 @@ use Rattle.outcome_conv.proofs.Converting.{exact_is, exact_read, fr_is, fr_read,
 use Rattle.outcome_conv.proofs.convert.cond_of.Goals as goal
 
 pub stores-k-requires : goal.stores-k-requires
-stores-k-requires c = let f = rf_read c.args.test.now c.args.sequences.now c.args.kind c.in-Rf.reader c.in-Rf.column c.in-Rf.writer c.in-Rf.place c.requires.test c.requires.sequences c.requires.kind c.in-Rf.is in rw (c.location_read-loc.ensures) (f.0.within)
+stores-k-requires c =
+    let f =
+    rf_read c.args.test.now c.args.sequences.now c.args.kind c.in-Rf.reader c.in-Rf.column c.in-Rf.writer
+    c.in-Rf.place c.requires.test c.requires.sequences c.requires.kind c.in-Rf.is in
+    rw (c.location_read-loc.ensures) (f.0.within)
 
 pub rank-a-requires-clause-thread : goal.rank-a-requires-clause-thread
-rank-a-requires-clause-thread c = let f = rf_read c.args.test.now c.args.sequences.now c.args.kind c.in-Rf.reader c.in-Rf.column c.in-Rf.writer c.in-Rf.place c.requires.test c.requires.sequences c.requires.kind c.in-Rf.is in f.1.thread
+rank-a-requires-clause-thread c =
+    let f =
+    rf_read c.args.test.now c.args.sequences.now c.args.kind c.in-Rf.reader c.in-Rf.column c.in-Rf.writer
+    c.in-Rf.place c.requires.test c.requires.sequences c.requires.kind c.in-Rf.is in
+    f.1.thread
 
 pub rank-a-requires-clause-place : goal.rank-a-requires-clause-place
-rank-a-requires-clause-place c = let f = rf_read c.args.test.now c.args.sequences.now c.args.kind c.in-Rf.reader c.in-Rf.column c.in-Rf.writer c.in-Rf.place c.requires.test c.requires.sequences c.requires.kind c.in-Rf.is in f.1.place
+rank-a-requires-clause-place c =
+    let f =
+    rf_read c.args.test.now c.args.sequences.now c.args.kind c.in-Rf.reader c.in-Rf.column c.in-Rf.writer
+    c.in-Rf.place c.requires.test c.requires.sequences c.requires.kind c.in-Rf.is in
+    f.1.place
 
 pub returns-in-Rf : goal.returns-in-Rf
 returns-in-Rf c =
-    let f = rf_read c.args.test.now c.args.sequences.now c.args.kind c.in-Rf.reader c.in-Rf.column c.in-Rf.writer c.in-Rf.place c.requires.test c.requires.sequences c.requires.kind c.in-Rf.is in
-    rf_is c.args.test.now c.args.kind c.in-Rf.reader c.in-Rf.column c.in-Rf.writer c.in-Rf.place _ _ _ c.in-Rf.is c.location_read-loc.ensures
+    let f = rf_read c.args.test.now c.args.sequences.now c.args.kind c.in-Rf.reader c.in-Rf.column c.in-Rf.writer
+    c.in-Rf.place c.requires.test c.requires.sequences c.requires.kind c.in-Rf.is in
+    rf_is c.args.test.now c.args.kind c.in-Rf.reader c.in-Rf.column c.in-Rf.writer c.in-Rf.place _ _ _ c.in-Rf.is
+    c.location_read-loc.ensures
     (c.stores-k.ensures ∙ ap (λ x. length (stores_at c.args.sequences.now x)) c.location_read-loc.ensures ∙ f.0.count)
     (c.rank-a.ensures ∙ f.1.rank)
 
 pub stores-k-requires-in-Fr : goal.stores-k-requires-in-Fr
-stores-k-requires-in-Fr c = let f = fr_read c.args.test.now c.args.sequences.now c.args.kind c.in-Fr.reader c.in-Fr.column c.in-Fr.writer c.requires.test c.requires.sequences c.requires.kind c.in-Fr.is in rw (c.location_read-loc-in-Fr.ensures) (f.within)
+stores-k-requires-in-Fr c =
+    let f =
+    fr_read c.args.test.now c.args.sequences.now c.args.kind c.in-Fr.reader c.in-Fr.column c.in-Fr.writer
+    c.requires.test c.requires.sequences c.requires.kind c.in-Fr.is in
+    rw (c.location_read-loc-in-Fr.ensures) (f.within)
 
 pub returns-in-Fr : goal.returns-in-Fr
 returns-in-Fr c =
-    let f = fr_read c.args.test.now c.args.sequences.now c.args.kind c.in-Fr.reader c.in-Fr.column c.in-Fr.writer c.requires.test c.requires.sequences c.requires.kind c.in-Fr.is in
-    fr_is c.args.test.now c.args.kind c.in-Fr.reader c.in-Fr.column c.in-Fr.writer _ _ c.in-Fr.is c.location_read-loc-in-Fr.ensures
-    (c.stores-k-in-Fr.ensures ∙ ap (λ x. length (stores_at c.args.sequences.now x)) c.location_read-loc-in-Fr.ensures ∙ f.count)
+    let f = fr_read c.args.test.now c.args.sequences.now c.args.kind c.in-Fr.reader c.in-Fr.column c.in-Fr.writer
+    c.requires.test c.requires.sequences c.requires.kind c.in-Fr.is in
+    fr_is c.args.test.now c.args.kind c.in-Fr.reader c.in-Fr.column c.in-Fr.writer _ _ c.in-Fr.is
+    c.location_read-loc-in-Fr.ensures
+    (c.stores-k-in-Fr.ensures ∙ ap (λ x. length (stores_at c.args.sequences.now x)) c.location_read-loc-in-Fr.ensures
+    ∙ f.count)
 
 pub stores-k-requires-in-Exact : goal.stores-k-requires-in-Exact
-stores-k-requires-in-Exact c = let f = exact_read c.args.test.now c.args.sequences.now c.args.kind c.in-Exact.reader c.in-Exact.column c.in-Exact.writer c.in-Exact.place c.requires.test c.requires.sequences c.requires.kind c.in-Exact.is in rw (c.location_read-loc-in-Exact.ensures) (f.0.within)
+stores-k-requires-in-Exact c =
+    let f =
+    exact_read c.args.test.now c.args.sequences.now c.args.kind c.in-Exact.reader c.in-Exact.column
+    c.in-Exact.writer c.in-Exact.place c.requires.test c.requires.sequences c.requires.kind c.in-Exact.is in
+    rw (c.location_read-loc-in-Exact.ensures) (f.0.within)
 
 pub rank-a-requires-in-Exact-clause-thread : goal.rank-a-requires-in-Exact-clause-thread
-rank-a-requires-in-Exact-clause-thread c = let f = exact_read c.args.test.now c.args.sequences.now c.args.kind c.in-Exact.reader c.in-Exact.column c.in-Exact.writer c.in-Exact.place c.requires.test c.requires.sequences c.requires.kind c.in-Exact.is in f.1.thread
+rank-a-requires-in-Exact-clause-thread c =
+    let f =
+    exact_read c.args.test.now c.args.sequences.now c.args.kind c.in-Exact.reader c.in-Exact.column
+    c.in-Exact.writer c.in-Exact.place c.requires.test c.requires.sequences c.requires.kind c.in-Exact.is in
+    f.1.thread
 
 pub rank-a-requires-in-Exact-clause-place : goal.rank-a-requires-in-Exact-clause-place
-rank-a-requires-in-Exact-clause-place c = let f = exact_read c.args.test.now c.args.sequences.now c.args.kind c.in-Exact.reader c.in-Exact.column c.in-Exact.writer c.in-Exact.place c.requires.test c.requires.sequences c.requires.kind c.in-Exact.is in f.1.place
+rank-a-requires-in-Exact-clause-place c =
+    let f =
+    exact_read c.args.test.now c.args.sequences.now c.args.kind c.in-Exact.reader c.in-Exact.column
+    c.in-Exact.writer c.in-Exact.place c.requires.test c.requires.sequences c.requires.kind c.in-Exact.is in
+    f.1.place
 
 pub returns-in-Exact : goal.returns-in-Exact
 returns-in-Exact c =
-    let f = exact_read c.args.test.now c.args.sequences.now c.args.kind c.in-Exact.reader c.in-Exact.column c.in-Exact.writer c.in-Exact.place c.requires.test c.requires.sequences c.requires.kind c.in-Exact.is in
-    exact_is c.args.test.now c.args.kind c.in-Exact.reader c.in-Exact.column c.in-Exact.writer c.in-Exact.place _ _ _ c.in-Exact.is c.location_read-loc-in-Exact.ensures
-    (c.stores-k-in-Exact.ensures ∙ ap (λ x. length (stores_at c.args.sequences.now x)) c.location_read-loc-in-Exact.ensures ∙ f.0.count)
+    let f = exact_read c.args.test.now c.args.sequences.now c.args.kind c.in-Exact.reader c.in-Exact.column
+    c.in-Exact.writer c.in-Exact.place c.requires.test c.requires.sequences c.requires.kind c.in-Exact.is in
+    exact_is c.args.test.now c.args.kind c.in-Exact.reader c.in-Exact.column c.in-Exact.writer c.in-Exact.place _ _ _
+    c.in-Exact.is c.location_read-loc-in-Exact.ensures
+    (c.stores-k-in-Exact.ensures ∙ ap (λ x. length (stores_at c.args.sequences.now x))
+    c.location_read-loc-in-Exact.ensures ∙ f.0.count)
     (c.rank-a-in-Exact.ensures ∙ f.1.rank)

@@ -7,4 +7,5 @@ returns-clause-err g c = no_memory
 
 pub returns-clause-done : goal.returns-clause-done
 returns-clause-done g c =
-    ran_or_still _ _ _ _ c.in-Ok.asked.command c.in-Ok.asked.checked.test c.in-Ok.ensures.ok (rw c.in-Err-text.is at c.work-text.ensures.err)
+    ran_or_still _ _ _ _ c.in-Ok.asked.command c.in-Ok.asked.checked.test c.in-Ok.ensures.ok
+    (rw c.in-Err-text.is at c.work-text.ensures.err)

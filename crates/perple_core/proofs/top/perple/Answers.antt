@@ -6,7 +6,8 @@ use Rattle.perple_core.proofs.top.perple.Goals as goal
 
 pub returns-clause-ended : goal.returns-clause-ended
 returns-clause-ended g c =
-    ended_from _ _ _ _ _ _ _ c.answer-text.result.text _ c.answer-text.ensures.ok c.answer-text.ensures.err c.answer-text.ensures.done
+    ended_from _ _ _ _ _ _ _ c.answer-text.result.text _ c.answer-text.ensures.ok c.answer-text.ensures.err
+    c.answer-text.ensures.done
     c.deliver-status.ensures.refused c.deliver-status.ensures.text
 
 pub returns-clause-usage : goal.returns-clause-usage

@@ -36,6 +36,7 @@ loop-at-preserved c =
             ∙ one_told text this at n line es w.in-Some.event _ is w.in-Some.ensures c.loop-at.invariant.left
         | in_default+else-has_words w ↦
             ap (λ (v : Vec RunEvent Global). onto_all v.items (events_from text (line + 1) (at + n))) w.events-is
-            ∙ nothing_told text this at n line es _ is w.in_default.ensures w.if-has_words.ensures c.loop-at.invariant.left
+            ∙ nothing_told text this at n line es _ is w.in_default.ensures w.if-has_words.ensures
+            c.loop-at.invariant.left
       ];
     }

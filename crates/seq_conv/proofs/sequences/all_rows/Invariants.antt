@@ -4,6 +4,7 @@ use Rattle.seq_conv.proofs.sequences.all_rows.Given as goal
 
 abbrev pub invariant-loop-thread : goal.invariant-loop-thread
 invariant-loop-thread l = record {
-  told : map (λ row. row.items) l.rows.items ++ numbers_in_bodies l.test l.thread (drop l.thread l.test.bodies) ≡ numbers_in_bodies l.test 0 l.test.bodies;
+  told : map (λ row. row.items) l.rows.items ++ numbers_in_bodies l.test l.thread (drop l.thread l.test.bodies)
+      ≡ numbers_in_bodies l.test 0 l.test.bodies;
   small : All (λ row. All IsSmall row.items) l.rows.items;
 }

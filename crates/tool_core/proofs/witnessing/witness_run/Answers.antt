@@ -7,4 +7,5 @@ pub returns-in-Ok-witness_text-clause-text : goal.returns-in-Ok-witness_text-cla
 returns-in-Ok-witness_text-clause-text g c =
     let ran : HasRunOn c.args.test.now (options_of c.args.n) c.run_test-done.result.done c.in-Ok-logs.logs.logs =
     rw (c.in-Ok-logs.is, c.options_of.ensures) at c.run_test-done.ensures.ran in
-    witness_of_runs c.args.test.now c.args.n c.run_test-done.result.done c.in-Ok-logs.logs.logs _ ran c.in-Ok-witness_text.ensures
+    witness_of_runs c.args.test.now c.args.n c.run_test-done.result.done c.in-Ok-logs.logs.logs _ ran
+    c.in-Ok-witness_text.ensures

@@ -6,11 +6,14 @@ use Rattle.tool_core.specs.Words.{command_of}
 use Rattle.tool_core.proofs.words.read_words.Goals as goal
 
 differs : (text name other : List ℕ) → name ≡ text → (name ≡ other → ⊥) → bytes_eq text other ≡ false
-differs text name other is not = false_from_ne_true (bytes_eq text other) (λ e. not (is ∙ (bytes_eq-Decides text other).0 e))
+differs text name other is not =
+    false_from_ne_true (bytes_eq text other) (λ e. not (is ∙ (bytes_eq-Decides text other).0 e))
 
 -- a first word that is no command's name names no command
-unnamed : {X : Type 0} (f : X → List ℕ) (ws : List X) (d : X) (name : List ℕ) → name ≡ f (get_or ws 0 d) → (name ≡ codes "judge" → ⊥) → (name ≡ codes "order" → ⊥)
-    → (name ≡ codes "witness" → ⊥) → (name ≡ codes "verdict" → ⊥) → (name ≡ codes "show" → ⊥) → (name ≡ codes "skew" → ⊥) → command_of (map f ws) ≡ None
+unnamed : {X : Type 0} (f : X → List ℕ) (ws : List X) (d : X) (name : List ℕ) → name ≡ f (get_or ws 0 d)
+    → (name ≡ codes "judge" → ⊥) → (name ≡ codes "order" → ⊥)
+    → (name ≡ codes "witness" → ⊥) → (name ≡ codes "verdict" → ⊥) → (name ≡ codes "show" → ⊥)
+    → (name ≡ codes "skew" → ⊥) → command_of (map f ws) ≡ None
 unnamed f [] d name is not_judge not_order not_witness not_verdict not_show not_skew = refl
 unnamed f (w ∷ ws) d name is not_judge not_order not_witness not_verdict not_show not_skew =
     rw (
@@ -24,6 +27,8 @@ unnamed f (w ∷ ws) d name is not_judge not_order not_witness not_verdict not_s
 
 pub returns-in_default-clause-usage : goal.returns-in_default-clause-usage
 returns-in_default-clause-usage c = λ _.
-    let first : c.as_str.result.now ≡ string_bytes (get_or c.args.words.now 0 c.index-words-0.result) = c.as_str.ensures.value ∙ ap (λ w. string_bytes w) c.index-words-0.is in
-    unnamed (λ w. string_bytes w) c.args.words.now c.index-words-0.result c.as_str.result.now first c.in_default.not-judge c.in_default.not-order
+    let first : c.as_str.result.now ≡ string_bytes (get_or c.args.words.now 0
+    c.index-words-0.result) = c.as_str.ensures.value ∙ ap (λ w. string_bytes w) c.index-words-0.is in
+    unnamed (λ w. string_bytes w) c.args.words.now c.index-words-0.result c.as_str.result.now first
+    c.in_default.not-judge c.in_default.not-order
     c.in_default.not-witness c.in_default.not-verdict c.in_default.not-show c.in_default.not-skew

@@ -16,12 +16,18 @@ all_back a b (suc (suc (suc (suc (suc (suc (suc (suc t)))))))) h = absurd (omega
 
 pub close-done-requires-clause-home : goal.close-done-requires-clause-home
 close-done-requires-clause-home g c =
-    let first : c.lane.result.thread ≡ 0 = ap (λ l. l.thread) c.lane.ensures ∙ c.swap.ensures.stays.1 ∙ c.drain.ensures.stays.1 ∙ ap (λ l. l.thread) c.new-one.ensures ∙ c.lend-first.ensures.lane.0 in
-    let second : c.lane-2.result.thread ≡ 1 = ap (λ l. l.thread) c.lane-2.ensures ∙ c.load.ensures.stays.1 ∙ ap (λ l. l.thread) c.new-two.ensures ∙ c.lend-second.ensures.lane.0 in
-    let home = c.lend-second.ensures.home ∙ ap (others 1) (c.lend-first.ensures.home ∙ ap (others 0) c.parts-words.ensures.fresh) in
+    let first : c.lane.result.thread ≡ 0 = ap (λ l. l.thread) c.lane.ensures ∙ c.swap.ensures.stays.1
+    ∙ c.drain.ensures.stays.1 ∙ ap (λ l. l.thread) c.new-one.ensures ∙ c.lend-first.ensures.lane.0 in
+    let second : c.lane-2.result.thread ≡ 1 = ap (λ l. l.thread) c.lane-2.ensures ∙ c.load.ensures.stays.1
+    ∙ ap (λ l. l.thread) c.new-two.ensures ∙ c.lend-second.ensures.lane.0 in
+    let home = c.lend-second.ensures.home ∙ ap (others 1) (c.lend-first.ensures.home
+    ∙ ap (others 0) c.parts-words.ensures.fresh) in
     let back =
-    c.take_back-2.ensures.home ∙ ap (λ ps. ps ++ one_part c.lane-2.result.thread c.lane-2.result.steps) c.take_back.ensures.home
-    ∙ ap (λ t. (c.lend-second.new.self.parts ++ one_part c.lane.result.thread c.lane.result.steps) ++ one_part t c.lane-2.result.steps) second
-    ∙ ap (λ t. (c.lend-second.new.self.parts ++ one_part t c.lane.result.steps) ++ one_part 1 c.lane-2.result.steps) first
+    c.take_back-2.ensures.home ∙ ap (λ ps. ps ++ one_part c.lane-2.result.thread c.lane-2.result.steps)
+    c.take_back.ensures.home
+    ∙ ap (λ t. (c.lend-second.new.self.parts ++ one_part c.lane.result.thread c.lane.result.steps)
+    ++ one_part t c.lane-2.result.steps) second
+    ∙ ap (λ t. (c.lend-second.new.self.parts ++ one_part t c.lane.result.steps) ++ one_part 1 c.lane-2.result.steps)
+    first
     ∙ ap (λ ps. (ps ++ one_part 0 c.lane.result.steps) ++ one_part 1 c.lane-2.result.steps) home
     in subst AllHome (sym back) (all_back c.lane.result.steps c.lane-2.result.steps)

@@ -10,7 +10,8 @@ use Rattle.frame_count.proofs.Remembered.{counts_alike}
 use Rattle.frame_count.proofs.counted.Counted.next.Goals as goal
 
 -- the stretches are those of the row before, which leave nothing of the row
-steady : (c : goal.Then-count_alike) → LeaveSteady c.args.conds.now c.args.logs.now.logs c.args.self.now.to c.args.self.now.stretches c.args.frame.now
+steady : (c : goal.Then-count_alike) → LeaveSteady c.args.conds.now c.args.logs.now.logs c.args.self.now.to
+    c.args.self.now.stretches c.args.frame.now
 steady c j d lt =
     let now = c.reaches-stretches.result in
     let k = c.conjunctions.result in
@@ -20,11 +21,14 @@ steady c j d lt =
     let alike = c.count_alike.ensures c.if-count_alike.true j d (omega arith) in
     let same : get_or c.args.self.now.stretches j d ≡ get_or now j d = alike.0 ∙ get_or-take k now j d (omega arith) in
     let bound = c.if-self-to.true in
-    let P : Stretch → Type 0 = Leaves c.args.self.now.to c.args.logs.now.logs c.args.frame.now (conjunction_of c.args.conds.now.ends c.args.conds.now.conds j) in
+    let P : Stretch → Type 0 = Leaves c.args.self.now.to c.args.logs.now.logs c.args.frame.now
+    (conjunction_of c.args.conds.now.ends c.args.conds.now.conds j) in
     let leaves : P (get_or now j d) = λ m l. c.reaches-stretches.ensures.leave j d lt m (omega arith) in
     (subst P (sym same) leaves, alike.1)
 
-hits : (c : goal.Then-count_alike) → c.args.self.now.hits ≡ count_by (λ m. frame_holds c.args.conds.now c.args.logs.now.logs (with_last c.args.frame.now m)) (range_with_len c.args.from (c.args.to - c.args.from))
+hits : (c : goal.Then-count_alike) → c.args.self.now.hits
+    ≡ count_by (λ m. frame_holds c.args.conds.now c.args.logs.now.logs (with_last c.args.frame.now m))
+    (range_with_len c.args.from (c.args.to - c.args.from))
 hits c =
     let row = c.args.self.now in
     let bound = c.if-self-to.true in
@@ -41,5 +45,10 @@ returns-then-count_alike-clause-hits c = hits c
 pub returns-then-not-is_empty-clause-counts : goal.returns-then-not-is_empty-clause-counts
 returns-then-not-is_empty-clause-counts c =
     counts_alike c.args.conds.now c.args.logs.now.logs c.requires.frame.0 c.args.frame.now
-    (record { from = c.args.from; to = c.args.to; stretches = c.reaches-stretches.result; hits = c.count_row-hits.result })
+    (record {
+      from = c.args.from;
+      to = c.args.to;
+      stretches = c.reaches-stretches.result;
+      hits = c.count_row-hits.result;
+    })
     c.requires.frame.1 c.requires.frame.3 c.reaches-stretches.ensures.leave c.count_row-hits.ensures

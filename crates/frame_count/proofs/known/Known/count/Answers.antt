@@ -25,6 +25,7 @@ loop-j-preserved c =
     let low = c.loop-j.invariant.0 in
     let long : 64 * j + 64 - 64 * from ≡ 64 * (j + 1) - 64 * from = omega arith in (
       omega arith,
-      count_join p (64 * from) (64 * j) 64 _ _ (omega arith) c.loop-j.invariant.1 (ap count_ones c.word.ensures ∙ along_ones p (64 * j) 64)
+      count_join p (64 * from) (64 * j) 64 _ _ (omega arith) c.loop-j.invariant.1
+          (ap count_ones c.word.ensures ∙ along_ones p (64 * j) 64)
           ∙ ap (λ n. count_by p (range_with_len (64 * from) n)) long,
     )

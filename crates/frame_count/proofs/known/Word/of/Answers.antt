@@ -10,10 +10,18 @@ returns c =
     let cond = c.args.cond.now in
     let names = c.requires.names.names in
     let there = c.requires.iterations.1 in
-    let value : (m : ℕ) → m < c.args.n → slice_index c.column-values.result.now m ≡ value_at c.args.logs.now.logs cond.reader cond.column m = λ m lt.
-    column_is c.args.n c.args.logs.now.logs c.at.result.now c.column-values.result.now cond.reader cond.column m c.requires.whole names.reader names.column c.at.ensures.log c.column-values.ensures.values lt in
+    let value : (m : ℕ) → m < c.args.n → slice_index c.column-values.result.now m
+    ≡ value_at c.args.logs.now.logs cond.reader cond.column m = λ m lt.
+    column_is c.args.n c.args.logs.now.logs c.at.result.now c.column-values.result.now cond.reader cond.column m
+    c.requires.whole names.reader names.column c.at.ensures.log c.column-values.ensures.values lt in
     record {
-      least = λ m low lt. (let e = value m (omega arith) in let h = (c.least_and_most-least.ensures m low lt).0 in omega arith);
-      most = λ m low lt. (let e = value m (omega arith) in let h = (c.least_and_most-least.ensures m low lt).1 in omega arith);
-      fits = c.fitting_word-fits.ensures ∙ along_within _ _ c.args.at 64 (λ i lt. ap (residue_fits cond.kind) (value (c.args.at + i) (omega arith)));
+      least =
+          λ m low lt. (let e = value m (omega arith) in let h = (c.least_and_most-least.ensures m low lt).0 in
+          omega arith);
+      most =
+          λ m low lt. (let e = value m (omega arith) in let h = (c.least_and_most-least.ensures m low lt).1 in
+          omega arith);
+      fits =
+          c.fitting_word-fits.ensures ∙ along_within _ _ c.args.at 64
+          (λ i lt. ap (residue_fits cond.kind) (value (c.args.at + i) (omega arith)));
     }

@@ -14,7 +14,8 @@ returns-then-first-end c =
     let high = c.min-end.ensures in
     let some = c.if-first-end.true in
     sym (count_all (is_within s) first (end - first)
-    (λ i lt. ap (λ b. b && nat_lt (first + i) s.to) (le-leb s.from (first + i) (omega arith)) ∙ lt-ltb (first + i) s.to (omega arith)))
+    (λ i lt. ap (λ b. b && nat_lt (first + i) s.to) (le-leb s.from (first + i) (omega arith))
+    ∙ lt-ltb (first + i) s.to (omega arith)))
     ∙ count_around (is_within s) c.args.from first end c.args.to (omega arith) (omega arith) (omega arith)
     (λ m le lt. before s m (omega arith))
     (λ m le lt. behind s m (omega arith))
@@ -25,4 +26,5 @@ returns-else-first-end c =
     let low = c.max-first.ensures in
     let high = c.min-end.ensures in
     let none = c.if-first-end.false in
-    count_outside (is_within s) c.args.from c.args.to (λ m le lt. none_between s c.args.from c.args.to m le lt (omega arith) (cases_lt m s.from))
+    count_outside (is_within s) c.args.from c.args.to (λ m le lt. none_between s c.args.from c.args.to m le lt
+    (omega arith) (cases_lt m s.from))

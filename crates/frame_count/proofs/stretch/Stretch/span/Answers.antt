@@ -5,7 +5,8 @@ use Rattle.frame_count.proofs.Reaches.{wider}
 use Rattle.frame_count.proofs.stretch.Stretch.span.Goals as goal
 
 pub returns-then-is_empty-clause-theirs : goal.returns-then-is_empty-clause-theirs
-returns-then-is_empty-clause-theirs c m e = absurd (both_ways (is_within c.args.other m) (c.is_empty.ensures c.if-is_empty.true m) e)
+returns-then-is_empty-clause-theirs c m e =
+    absurd (both_ways (is_within c.args.other m) (c.is_empty.ensures c.if-is_empty.true m) e)
 
 pub returns-clause-mine : goal.returns-clause-mine
 returns-clause-mine c m e =

@@ -11,7 +11,8 @@ returns c =
     let to = c.args.self.to in
     let others = along_others (λ m. nat_lt m from) c.args.at 64 in
     let below = c.below_word-2.ensures in
-    let rest : 18446744073709551615 - c.below_word-2.result ≡ mask_along (λ m. not (nat_lt m from)) c.args.at 64 = omega arith in
+    let rest : 18446744073709551615 - c.below_word-2.result
+    ≡ mask_along (λ m. not (nat_lt m from)) c.args.at 64 = omega arith in
     ap (λ w. bit_and w (18446744073709551615 - c.below_word-2.result)) c.below_word.ensures
     ∙ ap (bit_and (mask_along (λ m. nat_lt m to) c.args.at 64)) rest
     ∙ along_and (λ m. nat_lt m to) (λ m. not (nat_lt m from)) c.args.at 64

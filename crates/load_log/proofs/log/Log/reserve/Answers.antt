@@ -8,4 +8,10 @@ pub returns : goal.returns
 returns c = record { made = seen_none c.args.columns c.args.n c.in_ok-vec.field-0.items }
 
 pub invariant_of-result : goal.invariant_of-result
-invariant_of-result c = (search rules, λ some. some, omega (arith, zero-mul c.args.columns), c.requires.few, marked_none c.args.columns c.args.n c.in_ok-vec.field-0.items c.requires.few)
+invariant_of-result c = (
+  search rules,
+  λ some. some,
+  omega (arith, zero-mul c.args.columns),
+  c.requires.few,
+  marked_none c.args.columns c.args.n c.in_ok-vec.field-0.items c.requires.few,
+)

@@ -7,4 +7,6 @@ use Rattle.frame_count.proofs.lanes.fn.own_at_least_word.sixty_four.Goals as goa
 
 pub returns : goal.returns
 unfolding mask_along
-returns c = c.at_least_bits.ensures ∙ ap mask_l (zip2_of_maps leb (λ m. c.captures.k * m + c.captures.a) (slice_index c.captures.values.now) (range_with_len c.args.i 8) c.line_lanes.ensures c.value_lanes.ensures)
+returns c =
+    c.at_least_bits.ensures ∙ ap mask_l (zip2_of_maps leb (λ m. c.captures.k * m + c.captures.a)
+    (slice_index c.captures.values.now) (range_with_len c.args.i 8) c.line_lanes.ensures c.value_lanes.ensures)

@@ -7,4 +7,6 @@ use Rattle.frame_count.proofs.lanes.fn.own_equal_word.sixty_four.Goals as goal
 
 pub returns : goal.returns
 unfolding mask_along
-returns c = c.equal_bits.ensures ∙ ap mask_l (zip2_of_maps eqb (slice_index c.captures.values.now) (λ m. c.captures.k * m + c.captures.a) (range_with_len c.args.i 8) c.value_lanes.ensures c.line_lanes.ensures)
+returns c =
+    c.equal_bits.ensures ∙ ap mask_l (zip2_of_maps eqb (slice_index c.captures.values.now)
+    (λ m. c.captures.k * m + c.captures.a) (range_with_len c.args.i 8) c.value_lanes.ensures c.line_lanes.ensures)

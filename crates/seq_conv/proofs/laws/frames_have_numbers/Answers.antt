@@ -1,5 +1,0 @@
-use Rattle.seq_conv.proofs.Frames.{frames_have_numbers_lem}
-use Rattle.seq_conv.proofs.laws.frames_have_numbers.Goals as goal
-
-pub returns : goal.returns
-returns c = frames_have_numbers_lem

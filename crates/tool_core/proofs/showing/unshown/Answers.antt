@@ -1,7 +1,0 @@
-use Rattle.tool_core.proofs.ShowingSaid.{unshown_said}
-use Rattle.tool_core.proofs.showing.unshown.Goals as goal
-
-pub returns : goal.returns
-returns c =
-    unshown_said c.args.checked.now c.in_ok-verdict.verdict c.unshown_text.result c.test-test.ensures.checked
-    c.requires.none c.in_ok-verdict.ensures c.unshown_text.ensures
