@@ -62,7 +62,8 @@ no_second : (names : List Text) → arg_by_index (rules_for names) 2 ≡ None
 no_second [] = refl
 no_second (x ∷ xs) = no_second xs
 
-module _ (command : Text) (names : List Text) (rows : List Row) (pending : Option (Text × List Text)) (position : ℕ) (word : Text) where
+module _ (command : Text) (names : List Text) (rows : List Row) (pending : Option (Text × List Text)) (position : ℕ)
+    (word : Text) where
   -- an option that the command lacks
   pub unknown_turn : (waiting : Waiting) (name : Text) (value : Option Text) → bytes_eq word (45 ∷ 45 ∷ []) ≡ false
       → long_of word ≡ Some (name, value) → arg_by_long (rules_for names) name ≡ None

@@ -38,7 +38,8 @@ abbrev pub marks_of : List Progress → ℕ → Mark
 marks_of threads t = mark_of (unwrap_or (slice_get threads t) (record { done = 0; drained = 0 }))
 
 -- what is kept is that of a run that has been begun
-pub record IsKept (test : LitmusTest) (kinds : List AtomKind) (threads : List Progress) (words : List ℕ) (events : List Event) : Type 0 where
+pub record IsKept (test : LitmusTest) (kinds : List AtomKind) (threads : List Progress) (words : List ℕ)
+    (events : List Event) : Type 0 where
   pub stage : Stage test kinds (marks_of threads) events
   pub count : length threads ≡ length test.bodies
   pub long : length words ≡ 16
@@ -73,7 +74,8 @@ pub record IsOfStore (test : LitmusTest) (e : Event) : Type 0 where
   pub storing : is_storing action ≡ true
 
 -- the event can be next, and leaves less to do
-pub record IsNext (test : LitmusTest) (kinds : List AtomKind) (marks : ℕ → Mark) (events : List Event) (e : Event) : Type 0 where
+pub record IsNext (test : LitmusTest) (kinds : List AtomKind) (marks : ℕ → Mark) (events : List Event)
+    (e : Event) : Type 0 where
   pub thread : e.thread < length test.bodies
   pub iteration : e.iteration ≡ 0
   pub place : e.place < length (body_of test e.thread)

@@ -19,7 +19,9 @@ use Rattle.litmus_reader.specs.Draft.{draft_of, IsMade}
 use Rattle.litmus_reader.specs.Answered.{IfAnswered, RefusesText}
 use Rattle.litmus_reader.proofs.ReadingLaws.{one_reading}
 
-module _ (text name : List ℕ) (from line : ℕ) (h : first_line text ≡ Ok (name, rest_at (after_bytes start (take from text)) (drop from text))) (k : spot from line ≡ after_bytes start (take from text)) where
+module _ (text name : List ℕ) (from line : ℕ)
+    (h : first_line text ≡ Ok (name, rest_at (after_bytes start (take from text)) (drop from text)))
+    (k : spot from line ≡ after_bytes start (take from text)) where
   first_step : sections_at text ≡ (head (last_line text) 0 (spot from line) (drop from text) >>= λ rest. tokens_at
       (last_line text) name (lex 0 rest.at rest.text))
   unfolding sections_at

@@ -251,10 +251,6 @@ range_front (u ∷ us) vs a (suc n) e =
     let k : u ≡ a = cc in
     let t : us ++ vs ≡ range_with_len (a + 1) n = cc in let r = range_front us vs (a + 1) n t in cc
 
-pub length-range : (a n : ℕ) → length (range_with_len a n) ≡ n
-length-range a zero = refl
-length-range a (suc n) = ap suc (length-range (a + 1) n)
-
 range_any_step : (a y n : ℕ) (b : Bool) → (a == y) ≡ b → a ≤ y
     → (a + 1 ≤ y → list_any (λ v. v == y) (range_with_len (a + 1) n) ≡ ltb y (a + 1 + n))
     → (b || list_any (λ v. v == y) (range_with_len (a + 1) n)) ≡ ltb y (a + suc n)
@@ -331,6 +327,13 @@ apart_filter E p (x ∷ xs) h =
     apart_filter_step E x (filter p xs) (p x) (each_filter (λ y. E x y ≡ false) p xs h.0) (apart_filter E p xs h.1)
 
 -- alike in one list of a pair in step is alike in the other
+pub zip_push : {A B : Type 0} (R : A → B → Type 0) (xs : List A) (ys : List B) (x : A) (y : B) → AllZip R xs ys → R x y
+    → AllZip R (xs ++ x ∷ []) (ys ++ y ∷ [])
+zip_push R [] [] x y z h = (h, tt)
+zip_push R [] (b ∷ ys) x y z h = absurd z
+zip_push R (a ∷ xs) [] x y z h = absurd z
+zip_push R (a ∷ xs) (b ∷ ys) x y z h = (z.0, zip_push R xs ys x y z.1 h)
+
 pub each_zip : {A B : Type 0} (R : A → B → Type 0) (P : A → Type 0) (Q : B → Type 0)
     → ((a : A) (b : B) → R a b → P a → Q b) → (xs : List A) (ys : List B) → AllZip R xs ys → Each P xs → Each Q ys
 each_zip R P Q f [] [] h k = tt

@@ -2,6 +2,7 @@
 use Rattle.std.proofs.Common.{◌≡◌, ⊎_elim, ℕ, zero, suc, ◌*◌, ◌<◌, ◌≤◌, List, [], ◌∷◌, length, get_or, None, refl, sym, ap, ◌∙◌, subst, arith}
 use Rattle.std.specs.List.{AllZip, filter_map}
 use Rattle.std.proofs.lemmas.Bool.{cases_lt}
+use Rattle.std.proofs.lemmas.Slice.Zip.{AllZip-long}
 use Rattle.x86_subset.specs.Test.{LitmusTest, columns_of}
 use Rattle.tso_machine.specs.Event.{Event}
 use Rattle.tso_machine.specs.Log.{value_read, log_of}
@@ -21,7 +22,7 @@ use Rattle.perp_loop.specs.Walking.{IsFinished}
 use Rattle.tso_runs.proofs.Events.{history_part-other}
 use Rattle.tso_runs.proofs.Fitting.{fitting_run, histories_fit}
 use Rattle.tso_runs.proofs.OnePart.{lawful_parts_are_one}
-use Rattle.perp_loop.proofs.Rows.{list_at-past, zip_length}
+use Rattle.perp_loop.proofs.Rows.{list_at-past}
 use Rattle.perp_loop.proofs.Walked.{lawful_when_finished}
 
 pub zip_get_or : {A B : Type 0} (R : A → B → Type 0) (xs : List A) (ys : List B) (i : ℕ) (d : A) (e : B)
@@ -93,7 +94,7 @@ module _ (job : Job) (members : List Enrolled) (count : length members ≡ lengt
     (of_walkers : AreLogs members logs) (run : List Event)
     (read : (t : ℕ) → t < length job.test.bodies → HasRead job run t (get_or members t (someone job))) where
   counted : length logs ≡ length job.test.bodies
-  counted = zip_length (λ (p : Enrolled) log. IsLogOf p.walker log) members logs of_walkers ∙ count
+  counted = AllZip-long (λ (p : Enrolled) log. IsLogOf p.walker log) members logs of_walkers ∙ count
 
   log_at : (t : ℕ) (d : Values) → t < length job.test.bodies
       → IsLogOf (get_or members t (someone job)).walker (get_or logs t d)

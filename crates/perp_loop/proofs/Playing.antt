@@ -32,7 +32,7 @@ use Rattle.perp_loop.proofs.Replayed.{IsPlayer, Plays, TodoOf, live_are, plays_t
 use Rattle.tso_runs.proofs.Rest.{IsRest}
 use Rattle.tso_runs.proofs.Runs.{FindsAll-back, memory_all}
 use Rattle.tso_runs.proofs.Scheduled.{live, named_has, next, start_good, start, started, threads_below, turn_of}
-use Rattle.perp_loop.proofs.Slots.{length-slots_of_loop}
+use Rattle.tso_machine.proofs.Slots.{loop_length}
 use Rattle.perp_loop.proofs.Stepping.{own}
 use Rattle.perp_loop.proofs.Taken.{rest_from_finishes}
 use Rattle.tso_runs.proofs.Turns.{AreOf, Doing, next_by, turn_by}
@@ -236,7 +236,7 @@ module _ (job : Job) (schedule : Schedule) where
           let of = crew.of_job t (someone job) (omega arith) in
           let slots = ap (length {A = Slot}) (slots_are v t of.0 of.1 fresh.1 fresh.2.made) in
           let none = ap (length {A = Write}) fresh.2.buffer in
-          omega (arith, slots, none, length-slots_of_loop (body_of job.test t) job.options.iterations)
+          omega (arith, slots, none, loop_length (body_of job.test t) job.options.iterations)
 
       players : (t : ℕ) (d : Enrolled) → t < length job.test.bodies →
           IsPlayer job initial [] t (start job.test job.options schedule t)

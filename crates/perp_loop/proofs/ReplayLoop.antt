@@ -19,7 +19,8 @@ use Rattle.perp_loop.proofs.Playing.{Picked, picked, plays_step, room_for, turns
 use Rattle.perp_loop.proofs.Replayed.{Ended, IsPlayer, Plays, ended_logs, ended_whole, plays_end}
 
 -- what the loop keeps
-pub record Replays (job : Job) (schedule : Schedule) (members : List Enrolled) (playing : List Bool) (from : ℕ) (generator : List ℕ) (trace : Trace) (threads : ℕ) : Type 0 where
+pub record Replays (job : Job) (schedule : Schedule) (members : List Enrolled) (playing : List Bool) (from : ℕ)
+    (generator : List ℕ) (trace : Trace) (threads : ℕ) : Type 0 where
   pub plays : Plays job schedule members playing from generator trace
   pub flat : IsFlat trace.words trace.history
   pub long : length playing ≡ 8

@@ -75,7 +75,8 @@ abbrev pub TodoOf : Bool → Option Doing → Walking → Type 0
 TodoOf true o w = o ≡ Some (record { slots = slots_left w; made = w.made })
 TodoOf false o w = (o ≡ None) × IsFinished w
 
-pub record IsPlayer (job : Job) (s : State) (run : List Event) (t : ℕ) (o : Option Doing) (playing : Bool) (p : Enrolled) : Type 0 where
+pub record IsPlayer (job : Job) (s : State) (run : List Event) (t : ℕ) (o : Option Doing) (playing : Bool)
+    (p : Enrolled) : Type 0 where
   pub lane : p.lane ≡ None
   pub test : p.walker.test ≡ job.test
   pub options : p.walker.options ≡ job.options
@@ -104,7 +105,8 @@ module _ (job : Job) (schedule : Schedule) where
   threads = length job.test.bodies
 
   -- what walkers have come to
-  pub record Plays (members : List Enrolled) (playing : List Bool) (from : ℕ) (generator : List ℕ) (trace : Trace) : Type 0 where
+  pub record Plays (members : List Enrolled) (playing : List Bool) (from : ℕ) (generator : List ℕ)
+      (trace : Trace) : Type 0 where
     pub run : List Event
     pub number : ℕ
     pub doing : ℕ → Option Doing

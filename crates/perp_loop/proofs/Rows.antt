@@ -31,20 +31,6 @@ each_push P members new each here i d lt =
 pub each_none : (P : ℕ → Enrolled → Type 0) → Each P []
 each_none P i d lt = absurd (omega (arith, lt))
 
-pub zip_push : {A B : Type 0} (R : A → B → Type 0) (xs : List A) (ys : List B) (x : A) (y : B) → AllZip R xs ys → R x y
-    → AllZip R (xs ++ x ∷ []) (ys ++ y ∷ [])
-zip_push R [] [] x y all here = (here, tt)
-zip_push R [] (b ∷ ys) x y all here = absurd all
-zip_push R (a ∷ xs) [] x y all here = absurd all
-zip_push R (a ∷ xs) (b ∷ ys) x y all here = (all.0, zip_push R xs ys x y all.1 here)
-
-pub zip_length : {A B : Type 0} (R : A → B → Type 0) (xs : List A) (ys : List B) → AllZip R xs ys
-    → length ys ≡ length xs
-zip_length R [] [] all = refl
-zip_length R [] (b ∷ ys) all = absurd all
-zip_length R (a ∷ xs) [] all = absurd all
-zip_length R (a ∷ xs) (b ∷ ys) all = ap suc (zip_length R xs ys all.1)
-
 pub nothing_left : {X : Type 0} (l : List X) → length l ≡ 0 → l ≡ []
 nothing_left [] h = refl
 nothing_left (x ∷ xs) h = absurd (omega arith)

@@ -1,11 +1,10 @@
 -- The actions of a test lie within its limits.
 use Rattle.std.proofs.Common.{◌≡◌, ℕ, zero, suc, ◌≤◌, ◌<◌, subst, Some, List, [], ◌∷◌, length, arith}
-use Rattle.std.specs.Prelude.{All, IfSome, slice_get}
-use Rattle.std.specs.Option.{option_map_or}
+use Rattle.std.specs.Prelude.{IfSome, slice_get}
 use Rattle.std.proofs.lemmas.List.Elements.{All-head, All-tail}
 use Rattle.x86_subset.specs.Instr.{location_of}
 use Rattle.x86_subset.specs.Shape.{IsLocated, IsTest}
-use Rattle.x86_subset.specs.Test.{Code, LitmusTest, body_of}
+use Rattle.x86_subset.specs.Test.{LitmusTest, body_of}
 use Rattle.x86_subset.specs.declared.instr.Instr.{Instr}
 use Rattle.x86_subset.specs.declared.instr.Instr.TheVariants.{Store, Load, Fence, Exchange}
 use Rattle.tso_runs.proofs.Memories.{body_located}
@@ -32,13 +31,3 @@ pub action_in_range : (test : LitmusTest) (t p : ℕ) (action : Instr) → IsTes
 action_in_range test t p action is_test at =
     in_range_at (length test.locations) (body_of test t) p action is_test.few_locations
     (body_located (length test.locations) test.bodies t is_test.located) at
-
-short_at : (bodies : List Code) (t : ℕ) → All (λ (code : Code). length code.actions ≤ 16) bodies
-    → length (option_map_or (λ (code : Code). code.actions) (slice_get bodies t) []) ≤ 16
-short_at [] t all = omega arith
-short_at (b ∷ bs) zero all = All-head (λ (code : Code). length code.actions ≤ 16) b bs all
-short_at (b ∷ bs) (suc t) all = short_at bs t (All-tail (λ (code : Code). length code.actions ≤ 16) b bs all)
-
--- each body is short
-pub body_short : (test : LitmusTest) (t : ℕ) → IsTest test → length (body_of test t) ≤ 16
-body_short test t is_test = short_at test.bodies t is_test.few_actions

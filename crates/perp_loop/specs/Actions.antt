@@ -80,7 +80,9 @@ abbrev pub behind : Instr → Bool → Contents → List Entry
 behind action asks buffer = drop (due_before action asks buffer) buffer.entries
 
 -- an action is made, with its drains, which writes w in iteration n at place p
-pub record Makes {P : Type 0} (steps : P → List Step) (ready : P → ℕ → Type 0) (kept : P → P → Type 0) (action : Instr) (w n p : ℕ) (asks : Bool) (buffer : Contents) (log : Values) (port : P) (buffer' : Contents) (log' : Values) (port' : P) : Type 0 where
+pub record Makes {P : Type 0} (steps : P → List Step) (ready : P → ℕ → Type 0) (kept : P → P → Type 0)
+    (action : Instr) (w n p : ℕ) (asks : Bool) (buffer : Contents) (log : Values) (port : P) (buffer' : Contents)
+    (log' : Values) (port' : P) : Type 0 where
   pub read : ℕ
   pub few : due_before action asks buffer ≤ length buffer.entries
   pub newest : ReadsNewest action read (behind action asks buffer)

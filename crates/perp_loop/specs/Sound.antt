@@ -20,7 +20,8 @@ pub record IsPosition (n len i p : ℕ) : Type 0 where
   pub place : i < n → p < len
   pub last : i ≡ n → p ≡ 0
 
-pub record IsSound (test : LitmusTest) (table : Table) (options : Options) (t i p : ℕ) (drains : Asking) (buffer : Contents) (log : Values) : Type 0 where
+pub record IsSound (test : LitmusTest) (table : Table) (options : Options) (t i p : ℕ) (drains : Asking)
+    (buffer : Contents) (log : Values) : Type 0 where
   pub is_test : IsTest test
   pub thread : t < length test.bodies
   pub limits : IsWithinLimits options

@@ -71,7 +71,8 @@ pub record IsFinished (w : Walking) : Type 0 where
   pub drained : w.buffer ≡ []
 
 -- the walker takes the next turn, whose shared steps the port appends
-pub record TakesTurn {P : Type 0} (steps : P → List Step) (ready : P → ℕ → Type 0) (kept : P → P → Type 0) (old : Walking) (before : P) (new : Walking) (after : P) : Type 0 where
+pub record TakesTurn {P : Type 0} (steps : P → List Step) (ready : P → ℕ → Type 0) (kept : P → P → Type 0)
+    (old : Walking) (before : P) (new : Walking) (after : P) : Type 0 where
   pub turn : List Event
   pub is_turn : (rest : List Event) → Finishes new rest → IsTurnBefore turn rest
   pub takes : Takes old turn new
@@ -92,7 +93,8 @@ abbrev pub IsNew : Walking → Type 0
 IsNew w = w ≡ record w { made = 0; buffer = []; log = [] }
 
 -- the walker finishes a lawful part, whose shared steps the port appends
-pub record Walks {P : Type 0} (steps : P → List Step) (ready : P → ℕ → Type 0) (kept : P → P → Type 0) (old : Walking) (before : P) (new : Walking) (after : P) : Type 0 where
+pub record Walks {P : Type 0} (steps : P → List Step) (ready : P → ℕ → Type 0) (kept : P → P → Type 0)
+    (old : Walking) (before : P) (new : Walking) (after : P) : Type 0 where
   pub rest : List Event
   pub same : new ≡ record old { made = new.made; buffer = new.buffer; log = new.log }
   pub finishes : Finishes old rest

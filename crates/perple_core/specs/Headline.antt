@@ -2,7 +2,7 @@
 -- Nardelli and Myreen, CACM 2010), and the counts are PerpLE's (Melissaris, Markakis, Shaw and Martonosi, MICRO 2020);
 -- statuses and texts are this project's own.
 --
--- A legal run is `IsLegal` of seq_conv/specs/Machine, what the threads do in it is `Fits` of tso_runs/specs/Fits, and
+-- A legal run is `IsLegal` of tso_machine/specs/Machine, what the threads do in it is `Fits` of tso_runs/specs/Fits, and
 -- what is counted in it are the hits of outcome_conv/specs/Hits, which `text_of` of specs/Texts writes.
 use Rattle.std.specs.Prelude.{◌≡◌, ◌⊎◌, ℕ, ◌<◌, List, ◌++◌, length, take, Some}
 use Rattle.x86_subset.specs.Test.{LitmusTest}

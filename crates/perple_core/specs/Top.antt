@@ -45,7 +45,8 @@ pub record IsTextOfRun (test : LitmusTest) (job : Job) (done : Closed) (text : L
   pub each : (run : List Event) → Fits test job.options done.lists run → text ≡ text_of test job run
 
 -- the text is the one that this gives of the run of the schedule, and there is such a run
-pub record IsTextOfSchedule (test : LitmusTest) (options : Options) (schedule : Schedule) (gives : List Event → List ℕ) (text : List ℕ) : Type 0 where
+pub record IsTextOfSchedule (test : LitmusTest) (options : Options) (schedule : Schedule)
+    (gives : List Event → List ℕ) (text : List ℕ) : Type 0 where
   pub some_run : (run : List Event) × IsScheduled test options schedule run
   pub each : (run : List Event) → IsScheduled test options schedule run → text ≡ gives run
 
@@ -98,7 +99,8 @@ RanFor Convert test done = ⊥
 RanFor (Demo k) test done = ⊥
 
 -- How a call may end: with a refusal, which leaves `out` untouched, with the whole text, or with a part of it.
-pub data Ended (words : List (List ℕ)) (old new : View) (done : Closed) (out_old out_new : View) (untouched : Type 0) : Status → Type 0 where
+pub data Ended (words : List (List ℕ)) (old new : View) (done : Closed) (out_old out_new : View)
+    (untouched : Type 0) : Status → Type 0 where
   ended_refused : (status : Status) → Refused words old new status → IsStillOrRan words old new done status → untouched
       → Ended words old new done out_old out_new untouched status
   ended_whole : (text : List ℕ) → Answers words old new done text → Appends out_old.bytes out_new.bytes text

@@ -14,7 +14,8 @@ wraps_once n j below = elim (cases_lt j n) [
   | inr high ↦ inr (high, mod-eq-sub-mod high ∙ mod-eq_of_lt (omega arith))
 ]
 
-module _ {A : Type 0} (n oldest len : ℕ) (slots : List A) (there : oldest < n) (fits : len ≤ n) (all : length slots ≡ n) where
+module _ {A : Type 0} (n oldest len : ℕ) (slots : List A) (there : oldest < n) (fits : len ≤ n)
+    (all : length slots ≡ n) where
   length-window : length (window oldest len slots) ≡ len
   length-window =
       length-take-le len _ (simp (length-append, length-drop) (omega (
@@ -32,7 +33,8 @@ module _ {A : Type 0} (n oldest len : ℕ) (slots : List A) (there : oldest < n)
             ∙ get_or-take oldest slots _ d (omega arith) ∙ ap (λ j. get_or slots j d) (omega arith)
       ]
 
-module _ {A : Type 0} (n oldest len : ℕ) (slots : List A) (there : oldest < n) (fits : len ≤ n) (all : length slots ≡ n) where
+module _ {A : Type 0} (n oldest len : ℕ) (slots : List A) (there : oldest < n) (fits : len ≤ n)
+    (all : length slots ≡ n) where
   -- an item that is written after the last one comes to their end
   window-push : (x : A) → len < n → window oldest (len + 1) (set slots ((oldest + len) % n) x) ≡ window oldest len slots
       ++ x ∷ []

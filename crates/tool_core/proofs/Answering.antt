@@ -32,7 +32,8 @@ unread_due command input parts status e short (inr unread) =
     inr (due_for_text command input parts (Some (Core status)) e short (unread_is_due command parts status unread))
 
 -- what the work on a test and a section promises
-pub record Works (command : Command) (test : LitmusTest) (parts : Split) (done : Closed) (text : Result (String Global) ToolStatus) : Type 0 where
+pub record Works (command : Command) (test : LitmusTest) (parts : Split) (done : Closed)
+    (text : Result (String Global) ToolStatus) : Type 0 where
   pub none_due : IfOk text (λ _. due_for_test command test parts ≡ None)
   pub right : IfOk text (λ t. IsText command test parts done (string_bytes t))
   pub err : IfErr text (λ s. (s ≡ Core Memory) ⊎ (due_for_test command test parts ≡ Some s))
@@ -114,7 +115,8 @@ refused_from_input words old new command _ is (input_reading rose) = no_reading 
 refused_from_input words old new command _ is (input_long over) = too_long (command, is) over
 
 -- what a command answers to the input that it took
-pub record AnswersInput (command : Command) (input : List ℕ) (done : Closed) (text : Result (String Global) ToolStatus) : Type 0 where
+pub record AnswersInput (command : Command) (input : List ℕ) (done : Closed)
+    (text : Result (String Global) ToolStatus) : Type 0 where
   pub ok : IfOk text (λ t. IsAnswer command input done (string_bytes t))
   pub err : IfErr text (λ s. (s ≡ Core Memory) ⊎ IsDue command input (Some s))
   pub still : IfErr text (IsStillOrRan command input done)

@@ -8,7 +8,7 @@ use Rattle.x86_subset.specs.Instr.{is_reading}
 use Rattle.x86_subset.specs.Shape.{IsTest}
 use Rattle.x86_subset.specs.Test.{LitmusTest, body_of, columns_of}
 use Rattle.perp_base.specs.declared.limits.TheConstants.{MOST_ACTIONS}
-use Rattle.perp_loop.proofs.Sites.{body_short}
+use Rattle.seq_conv.proofs.Numbering.{body_short}
 
 few_columns : (test : LitmusTest) (t : ℕ) → IsTest test → columns_of test t ≤ MOST_ACTIONS
 few_columns test t is =

@@ -107,7 +107,8 @@ WroteAsTool status old new text = ((status ≡ Core Whole) × Appends old.bytes 
     ⊎ ((status ≡ Core WriteFault) × Rose old.faults new.faults × AppendsPart old.bytes new.bytes text)
 
 -- How a call may end: with a refusal, which leaves `out` untouched, with the whole text, or with a part of it.
-pub data Ended (words : List (List ℕ)) (old new : View) (done : Closed) (out_old out_new : View) (untouched : Type 0) : ToolStatus → Type 0 where
+pub data Ended (words : List (List ℕ)) (old new : View) (done : Closed) (out_old out_new : View)
+    (untouched : Type 0) : ToolStatus → Type 0 where
   ended_refused : (status : ToolStatus) → Refused words old new status → Leaves words old new done status → untouched
       → Ended words old new done out_old out_new untouched status
   ended_whole : (text : List ℕ) → Answers words old new done text → Appends out_old.bytes out_new.bytes text

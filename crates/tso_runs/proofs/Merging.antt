@@ -36,7 +36,8 @@ record IsLeft (test : LitmusTest) (s : State) (history : List TracedStep) (rest 
   finds : FindsAll s.memory history
 
 -- the run does it
-record Does (test : LitmusTest) (s : State) (history : List TracedStep) (rest : ℕ → List Event) (run : List Event) : Type 0 where
+record Does (test : LitmusTest) (s : State) (history : List TracedStep) (rest : ℕ → List Event)
+    (run : List Event) : Type 0 where
   legal : Steps test s run
   drained : (t : ℕ) → (after_all test s run).buffer t ≡ []
   threads : All (λ e. e.thread < length test.bodies) run

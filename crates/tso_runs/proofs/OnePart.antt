@@ -49,7 +49,8 @@ module _ (test : LitmusTest) (options : Options) (t : ℕ) where
       at_most_due-cons slot slots j b e.thread e.iteration e.place e.kind es (at_most_due slot slots j b es)
 
   -- an event that is no Drain is that of the next slot, stands after the Drains that are due, and leaves a rest
-  pub record Acts (slot : Slot) (slots : List Slot) (buffer : List Write) (j d : ℕ) (e : Event) (es : List Event) : Type 0 where
+  pub record Acts (slot : Slot) (slots : List Slot) (buffer : List Write) (j d : ℕ) (e : Event)
+      (es : List Event) : Type 0 where
     pub due_now : d ≡ due slot.action j (length buffer + d)
     pub thread : e.thread ≡ t
     pub fills : Fills t slot e

@@ -120,13 +120,15 @@ module _ (options : Options) (t : ℕ) where
 
 -- the rest of a lawful part: its slots, the own buffer, the number of its next turn, and the Drains of this turn that
 -- are done
-pub record IsRest (test : LitmusTest) (options : Options) (t : ℕ) (slots : List Slot) (buffer : List Write) (j d : ℕ) (part : List Event) : Type 0 where
+pub record IsRest (test : LitmusTest) (options : Options) (t : ℕ) (slots : List Slot) (buffer : List Write)
+    (j d : ℕ) (part : List Event) : Type 0 where
   pub own : All (λ e. e.thread ≡ t) part
   pub fills : AllZip (Fills t) slots (filter (λ e. not (is_drain e)) part)
   pub keeps : KeepsBuffer test buffer part
   pub drained : AreDue options t j (length buffer + d) (counted_from d part)
 
-module _ (test : LitmusTest) (options : Options) (t : ℕ) (slots : List Slot) (buffer : List Write) (j : ℕ) (part : List Event) where
+module _ (test : LitmusTest) (options : Options) (t : ℕ) (slots : List Slot) (buffer : List Write) (j : ℕ)
+    (part : List Event) where
   -- a rest whose next turn has not begun, and the rule of the seed
   pub is_rest : All (λ e. e.thread ≡ t) part → AllZip (Fills t) slots (filter (λ e. not (is_drain e)) part)
       → KeepsBuffer test buffer part → DrainsWhereDue options t j (length buffer) (turns_of part)

@@ -196,7 +196,8 @@ module _ (test : LitmusTest) (options : Options) (schedule : Schedule) where
 
   -- One run.
 
-  record Step (s : State) (doing : ℕ → Option Doing) (i from : ℕ) (turn : List Event) (turns : List (List Event)) : Type 0 where
+  record Step (s : State) (doing : ℕ → Option Doing) (i from : ℕ) (turn : List Event)
+      (turns : List (List Event)) : Type 0 where
     thread : ℕ
     todo : Doing
     is_named : named schedule i from (live threads doing) ≡ Some thread
@@ -382,7 +383,8 @@ module _ (test : LitmusTest) (options : Options) (schedule : Schedule) where
 
   -- a turn is taken
 
-  module _ (one : 1 ≤ options.buffer) (s : State) (doing : ℕ → Option Doing) (good : IsGood s doing) (t : ℕ) (d : Doing) (below : t < threads) (does : doing t ≡ Some d) where
+  module _ (one : 1 ≤ options.buffer) (s : State) (doing : ℕ → Option Doing) (good : IsGood s doing) (t : ℕ)
+      (d : Doing) (below : t < threads) (does : doing t ≡ Some d) where
     abbrev pub turn : List Event
     turn = turn_of s t d
 
@@ -435,7 +437,9 @@ module _ (test : LitmusTest) (options : Options) (schedule : Schedule) where
         total_falls threads t f g below less (λ u isnt. λ i. weight_of test options u
         (updated-other doing t (next s t d) u isnt i) (buffers_other test s t u turn front.own isnt i))
 
-    module _ (i from : ℕ) (is_named : named schedule i from (live threads doing) ≡ Some t) (turns : List (List Event)) (later : Continues then after_turn (i + 1) (t + 1) turns) (ends : Ends then turns) where
+    module _ (i from : ℕ) (is_named : named schedule i from (live threads doing) ≡ Some t)
+        (turns : List (List Event)) (later : Continues then after_turn (i + 1) (t + 1) turns)
+        (ends : Ends then turns) where
       abbrev rest : List Event
       rest = joined turns
 

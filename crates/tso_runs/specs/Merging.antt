@@ -20,7 +20,8 @@ pub record Explains (test : LitmusTest) (history : List TracedStep) (parts : ℕ
   pub rest : (t : ℕ) → length test.bodies ≤ t → history_part t history ≡ []
 
 -- the run is legal and made of these parts, its shared history is the one given, and it ends with these words
-pub record Merges (test : LitmusTest) (words : List ℕ) (history : List TracedStep) (parts : ℕ → List Event) (run : List Event) : Type 0 where
+pub record Merges (test : LitmusTest) (words : List ℕ) (history : List TracedStep) (parts : ℕ → List Event)
+    (run : List Event) : Type 0 where
   pub legal : IsLegal test run
   pub threads : All (λ e. e.thread < length test.bodies) run
   pub made_of : (t : ℕ) → t < length test.bodies → part_of t run ≡ parts t

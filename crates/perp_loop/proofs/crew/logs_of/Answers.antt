@@ -4,7 +4,8 @@ use Rattle.std.proofs.lemmas.List.Elements.{All-tail}
 use Rattle.load_log.specs.Values.{Lists}
 use Rattle.perp_loop.specs.Walking.{IsFinished}
 use Rattle.perp_loop.specs.Crews.{Enrolled, AllFinished, AreLogs, IsLogOf}
-use Rattle.perp_loop.proofs.Rows.{nothing_left, zip_push}
+use Rattle.perp_base.proofs.Lists.{zip_push}
+use Rattle.perp_loop.proofs.Rows.{nothing_left}
 use Rattle.perp_loop.proofs.crew.logs_of.Goals as goal
 
 pub loop-member-preserved : goal.loop-member-preserved

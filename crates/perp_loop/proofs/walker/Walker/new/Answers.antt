@@ -4,8 +4,8 @@ use Rattle.x86_subset.specs.Instr.{is_reading}
 use Rattle.x86_subset.specs.Test.{body_of}
 use Rattle.store_buffer.specs.Contents.{Contents}
 use Rattle.load_log.specs.Values.{Values}
+use Rattle.seq_conv.proofs.Numbering.{body_short}
 use Rattle.perp_loop.specs.Actions.{write_from}
-use Rattle.perp_loop.proofs.Sites.{body_short}
 use Rattle.perp_loop.proofs.New.{none_made, sound_new, stands_new}
 use Rattle.perp_loop.proofs.walker.Walker.new.Goals as goal
 
