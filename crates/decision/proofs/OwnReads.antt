@@ -26,7 +26,7 @@ use Rattle.verdict.proofs.Moments.{HasDeed, HasWrite, IsEarlier, any_among, any_
 among_self : {X : Type 0} (xs : List X) → Each (λ x. Among x xs) xs
 among_self xs = each_from_among (λ x. Among x xs) xs (λ x a. a)
 
--- the last that passes is one that is known to pass, or stands behind it
+-- the last that passes is one that is known to pass, or stands after it
 record LastFrom {X : Type 0} (p : X → Bool) (xs : List X) (y : X) (cs : List X) : Type 0 where
   last : X
   is : last_that p xs ≡ Some last
@@ -223,7 +223,7 @@ deed_of_write test n before rest d r a m = go (is_drain d) refl
         subst (HasDeed d.thread d.place d.iteration) (sym a.whole)
         (more_deed d.thread d.place d.iteration a.front (d ∷ a.rest) y)
 
--- no two events of one turn that pass, one behind the other
+-- no two events of one turn that pass, one after the other
 twice : (q : Event → Bool) (t : ℕ) (fs : List Event) (y : Event) (cs after : List Event) (c d : Event)
     → Apart same_turn (filter q (part_of t ((fs ++ y ∷ cs) ++ after))) → Among c fs → Among d cs → c.thread ≡ t
     → d.thread ≡ t

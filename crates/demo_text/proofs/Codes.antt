@@ -13,8 +13,8 @@ use Rattle.x86_subset.specs.Form.{register_of, fill, fit, meaning}
 use Rattle.litmus_reader.specs.Answer.{Refusal, ◌>>=◌}
 use Rattle.litmus_reader.specs.Initial.{judge, items}
 use Rattle.litmus_reader.specs.Rows.{no_code, column_code, threads_after, columns_at, cell_at, cells_at, row_of, rows_at}
-use Rattle.litmus_reader.specs.Condition.{Joined, behind_close, section_at, quantifier_at}
-use Rattle.litmus_reader.specs.Expression.{AtTerm, outermost, in_atom, at_term, behind_term, expression_at}
+use Rattle.litmus_reader.specs.Condition.{Joined, after_close, section_at, quantifier_at}
+use Rattle.litmus_reader.specs.Expression.{AtTerm, outermost, in_atom, at_term, after_term, expression_at}
 use Rattle.litmus_reader.specs.Reading.{test_of, tokens_at}
 use Rattle.demo_text.specs.declared.draw.Draw.{Draw}
 use Rattle.demo_text.specs.declared.line.Line.{Line}
@@ -25,8 +25,8 @@ use Rattle.demo_text.proofs.Lines.{plains, bits_of, line-plain}
 
 reading : ℕ
 unfolding is_blank is_head is_tail sign is_pair is_single close_end pair_cut cut_at lex register_of fill fit meaning
-    parse judge items columns_at cell_at cells_at row_of rows_at behind_close section_at quantifier_at in_atom at_term
-    behind_term expression_at tokens_at digits
+    parse judge items columns_at cell_at cells_at row_of rows_at after_close section_at quantifier_at in_atom at_term
+    after_term expression_at tokens_at digits
 reading = 0
 
 -- ---- what the lines make
@@ -79,33 +79,33 @@ rest_text ds =
     ++ (line_text Middle ds ++ (line_text Last ds ++ line_text Condition ds))))
 
 -- what stands after the rows
-abbrev behind : ℕ → List ℕ → Result (Threads × List Lexeme) Refusal → Result LitmusTest Refusal
-behind last name r = do
+abbrev after : ℕ → List ℕ → Result (Threads × List Lexeme) Refusal → Result LitmusTest Refusal
+after last name r = do
   s ← r
   ts ← section_at last s.1
   q ← quantifier_at last ts
   j ← expression_at last (AtTerm false) outermost q.1
   Ok (test_of name s.0 q.0 j)
 
-behind_brace : (last : ℕ) (name : List ℕ) (at : Spot) (rest : List ℕ)
+after_brace : (last : ℕ) (name : List ℕ) (at : Spot) (rest : List ℕ)
     → tokens_at last name (lex 0 at (codes " }\n" ++ rest))
-    ≡ (columns_at last [] (lex 0 (after_bytes at (codes " }\n")) rest) >>= λ c. behind last name
+    ≡ (columns_at last [] (lex 0 (after_bytes at (codes " }\n")) rest) >>= λ c. after last name
     (rows_at last c.0 [] c.1))
 unfolding reading
-behind_brace last name at rest = refl
+after_brace last name at rest = refl
 
 abbrev before_row : Line → ℕ → Threads → Spot → List ℕ → List Bool → Result (Threads × List Lexeme) Refusal
 before_row line last s at rest bs = rows_at last s [] (lex 0 at (line_text line (plains bs) ++ rest))
 
-abbrev behind_row : Line → ℕ → ℕ → Threads → Spot → List ℕ → List Bool → Result (Threads × List Lexeme) Refusal
-behind_row line n last s at rest bs =
+abbrev after_row : Line → ℕ → ℕ → Threads → Spot → List ℕ → List Bool → Result (Threads × List Lexeme) Refusal
+after_row line n last s at rest bs =
     rows_at last (threads_by line n 0 bs s) [] (lex 0 (after_bytes at (line_text line (plains bs))) rest)
 
 -- a row is read from these threads
 abbrev RowReads : Line → ℕ → Threads → List Bool → Type 0
 RowReads line n s bs =
     (last : ℕ) (at : Spot) (rest : List ℕ) → every bs (before_row line last s at rest)
-    ≡ every bs (behind_row line n last s at rest)
+    ≡ every bs (after_row line n last s at rest)
 
 -- the columns are read
 abbrev ColumnsRead : List Draw → Type 0
@@ -116,7 +116,7 @@ ColumnsRead ds = (last : ℕ) (at : Spot) (rest : List ℕ)
 -- the condition is read
 abbrev ConditionReads : List Bool → Type 0
 ConditionReads bs = (last : ℕ) (name : List ℕ) (s : Threads) (at : Spot)
-    → every bs (λ bs. behind last name (rows_at last s [] (lex 0 at (line_text Condition (plains bs)))))
+    → every bs (λ bs. after last name (rows_at last s [] (lex 0 at (line_text Condition (plains bs)))))
     ≡ every bs (λ bs. Ok (test_of name s Exists (joined_by bs)))
 
 -- the sections, one after another
@@ -141,18 +141,18 @@ module _ (ds : List Draw) (columns : ColumnsRead ds)
 
   row_read : (line : Line) (s : Threads) (bs : List Bool) → RowReads line (length ds) s bs
       → (last : ℕ) (at : Spot) (rest : List ℕ)
-      → before_row line last s at rest bs ≡ behind_row line (length ds) last s at rest bs
+      → before_row line last s at rest bs ≡ after_row line (length ds) last s at rest bs
   row_read line s bs reads last at rest =
-      same_at bs (before_row line last s at rest) (behind_row line (length ds) last s at rest) (reads last at rest)
+      same_at bs (before_row line last s at rest) (after_row line (length ds) last s at rest) (reads last at rest)
 
   rows_read : (last : ℕ) (name : List ℕ) (at : Spot)
-      → behind last name (rows_at last (no_code (length ds)) [] (lex 0
+      → after last name (rows_at last (no_code (length ds)) [] (lex 0
       at (line_text First (plains (bits_of First ds))
       ++ (line_text Middle (plains (bits_of Middle ds))
       ++ (line_text Last (plains (bits_of Last ds)) ++ line_text Condition (plains (bits_of Condition ds)))))))
       ≡ Ok (test_for name ds)
   rows_read last name at =
-      ap (behind last name) (
+      ap (after last name) (
       row_read First _ (bits_of First ds) first last at _
       ∙ row_read Middle _ (bits_of Middle ds) middle last _ _
       ∙ row_read Last _ (bits_of Last ds) last_row last _ _)
@@ -161,9 +161,9 @@ module _ (ds : List Draw) (columns : ColumnsRead ds)
   pub all_read : (last : ℕ) (name : List ℕ) (at : Spot)
       → tokens_at last name (lex 0 at (rest_text ds)) ≡ Ok (test_for name ds)
   all_read last name at =
-      behind_brace last name at _
-      ∙ ap (λ c. c >>= λ c. behind last name (rows_at last c.0 [] c.1)) (columns last (after_bytes at (codes " }\n")) _)
-      ∙ ap (λ text. behind last name (rows_at last (no_code (length ds)) []
+      after_brace last name at _
+      ∙ ap (λ c. c >>= λ c. after last name (rows_at last c.0 [] c.1)) (columns last (after_bytes at (codes " }\n")) _)
+      ∙ ap (λ text. after last name (rows_at last (no_code (length ds)) []
       (lex 0 (after_bytes (after_bytes at (codes " }\n")) (line_text Columns ds)) text)))
       (ap₂ (λ a b. a ++ b) (line-plain First ds) (ap₂ (λ a b. a ++ b) (line-plain Middle ds)
       (ap₂ (λ a b. a ++ b) (line-plain Last ds) (line-plain Condition ds))))

@@ -196,8 +196,8 @@ wider f t g u m low high e =
 pub before : (s : Stretch) (m : ℕ) → m < s.from → is_within s m ≡ false
 before s m lt = ap (λ b. b && nat_lt m s.to) (lt-leb s.from m lt)
 
-pub behind : (s : Stretch) (m : ℕ) → s.to ≤ m → is_within s m ≡ false
-behind s m le = ap (λ b. nat_le s.from m && b) (le-ltb m s.to le) ∙ and_false (nat_le s.from m)
+pub after : (s : Stretch) (m : ℕ) → s.to ≤ m → is_within s m ≡ false
+after s m le = ap (λ b. nat_le s.from m && b) (le-ltb m s.to le) ∙ and_false (nat_le s.from m)
 
 not_within : (s hull : Stretch) (m : ℕ) → (is_within s m ≡ true → is_within hull m ≡ true) → is_within hull m ≡ false
     → (is_within s m ≡ true) ⊎ (is_within s m ≡ false) → is_within s m ≡ false
@@ -208,7 +208,7 @@ not_within s hull m h out (inr e) = e
 pub none_between : (s : Stretch) (from to m : ℕ) → from ≤ m → m < to → min s.to to ≤ max s.from from
     → (m < s.from) ⊎ (s.from ≤ m) → is_within s m ≡ false
 none_between s from to m low lt none (inl h) = before s m h
-none_between s from to m low lt none (inr h) = behind s m (omega arith)
+none_between s from to m low lt none (inr h) = after s m (omega arith)
 
 -- outside of a stretch round those of all conjunctions none of them holds
 pub none_outside : (c : Conditions) (logs : List Values) (frame : List ℕ) (n : ℕ) (stretches : List Stretch)

@@ -21,7 +21,7 @@ use Rattle.x86_subset.specs.Form.{kind_code, is, is_keyword, register_of, value,
 use Rattle.x86_subset.specs.Cell.{Form, Blank, Fence, StoreNumber, StoreRegister, Load, Constant, Exchange, Threads, cell_rows, is_small, judged, parse, place_in, having_by, having, code_after, locations_after}
 use Rattle.litmus_reader.specs.declared.kind.LitmusKind.TheVariants.{NotX86}
 use Rattle.litmus_reader.specs.Answer.{Accepted, refuse}
-use Rattle.litmus_reader.specs.Front.{words, is_x86, name_of, Rest, named_or_not, rest_at, line_in, behind_line, first_line}
+use Rattle.litmus_reader.specs.Front.{words, is_x86, name_of, Rest, named_or_not, rest_at, line_in, after_line, first_line}
 use Rattle.litmus_reader.specs.Rows.{column_code, threads_after}
 use Rattle.litmus_reader.specs.Reading.{sections_at, read_text}
 use Rattle.litmus_reader.specs.declared.kind.LitmusError.{LitmusError}
@@ -298,14 +298,14 @@ unfolding first_line
 first_ascii text x e = go (is_x86 (words (line_in text))) (name_of (words (line_in text))) refl e
   where
     go : (v : Bool) (o : Option (List ℕ)) → name_of (words (line_in text)) ≡ o
-        → cond v (named_or_not o (rest_at (after_bytes start (line_in text)) (behind_line text))) (refuse NotX86 1)
+        → cond v (named_or_not o (rest_at (after_bytes start (line_in text)) (after_line text))) (refuse NotX86 1)
         ≡ Ok x
         → IsAscii x.0
     go true None k e = absurd cc
     go true (Some name) k e =
         subst (λ (x : List ℕ × Rest). IsAscii x.0) (ok_is (
           name,
-          rest_at (after_bytes start (line_in text)) (behind_line text),
+          rest_at (after_bytes start (line_in text)) (after_line text),
         ) x e)
         (name_ascii (words (line_in text)) name k)
     go false o k e = absurd cc

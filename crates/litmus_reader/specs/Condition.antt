@@ -235,14 +235,14 @@ in_a_row cs = record { atoms = flat_map (λ c. c) cs; ends = ends_of cs }
 -- ---- the same as functions
 
 -- the tokens after the next closing bracket
-unfoldable pub behind_close : ℕ → List Lexeme → Result (List Lexeme) Refusal
-behind_close last [] = refuse Condition last
-behind_close last (t ∷ ts) = let more = behind_close last ts in if is RightSquare t then Ok ts else more
+unfoldable pub after_close : ℕ → List Lexeme → Result (List Lexeme) Refusal
+after_close last [] = refuse Condition last
+after_close last (t ∷ ts) = let more = after_close last ts in if is RightSquare t then Ok ts else more
 
 -- the tokens after a list in brackets
 abbrev pub opened_at : ℕ → List Lexeme → Result (List Lexeme) Refusal
 opened_at last [] = refuse Condition last
-opened_at last (t ∷ ts) = if is LeftSquare t then behind_close last ts else refuse Condition t.line
+opened_at last (t ∷ ts) = if is LeftSquare t then after_close last ts else refuse Condition t.line
 
 -- the tokens after the section of locations, if there is one
 unfoldable pub section_at : ℕ → List Lexeme → Result (List Lexeme) Refusal
@@ -250,13 +250,13 @@ section_at last [] = Ok []
 section_at last (t ∷ ts) = if is_word (codes "locations") t then opened_at last ts else Ok (t ∷ ts)
 
 -- `exists` after a `~`
-abbrev pub behind_tilde : ℕ → List Lexeme → Result (Quantifier × List Lexeme) Refusal
-behind_tilde last [] = refuse Condition last
-behind_tilde last (t ∷ ts) = if is_word (codes "exists") t then Ok (NotExists, ts) else refuse Condition t.line
+abbrev pub after_tilde : ℕ → List Lexeme → Result (Quantifier × List Lexeme) Refusal
+after_tilde last [] = refuse Condition last
+after_tilde last (t ∷ ts) = if is_word (codes "exists") t then Ok (NotExists, ts) else refuse Condition t.line
 
 -- the quantifier, and the tokens after it
 unfoldable pub quantifier_at : ℕ → List Lexeme → Result (Quantifier × List Lexeme) Refusal
 quantifier_at last [] = refuse Condition last
 quantifier_at last (t ∷ ts) =
-    if is Tilde t then behind_tilde last ts else if is_word (codes "exists") t then Ok (Exists, ts) else
+    if is Tilde t then after_tilde last ts else if is_word (codes "exists") t then Ok (Exists, ts) else
     refuse (if is_word (codes "forall") t then Forall else Condition) t.line

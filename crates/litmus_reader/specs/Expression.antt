@@ -98,8 +98,8 @@ at_term joined n t next =
     Fails (if is_memory t next then MemoryCondition else Condition)
 
 -- a token after a term
-unfoldable pub behind_term : Bool → Nest → Lexeme → Step
-behind_term mixed n t =
+unfoldable pub after_term : Bool → Nest → Lexeme → Step
+after_term mixed n t =
     if is Both t then (if mixed then Fails Disjunction else Goes (AtTerm true) n) else
     if is Either t then (if may_or n then Parts (behind_or n) else Fails Disjunction) else
     if is_outside n then Fails Trailing else
@@ -108,7 +108,7 @@ behind_term mixed n t =
 -- a token at this place
 abbrev pub step : Place → Nest → Lexeme → List Lexeme → Step
 step (AtTerm joined) n t next = at_term joined n t next
-step (BehindTerm mixed) n t next = behind_term mixed n t
+step (BehindTerm mixed) n t next = after_term mixed n t
 step (InAtom ss found) n t next = in_atom n ss t found
 
 -- the text may end here

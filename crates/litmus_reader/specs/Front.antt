@@ -125,8 +125,8 @@ abbrev pub line_in : List ℕ → List ℕ
 line_in text = take (line_len text) text
 
 -- what stands after it
-abbrev pub behind_line : List ℕ → List ℕ
-behind_line text = drop (line_len text) text
+abbrev pub after_line : List ℕ → List ℕ
+after_line text = drop (line_len text) text
 
 -- the name and what stands after the line, if there is a name
 abbrev pub named_or_not : Option (List ℕ) → Rest → Result (List ℕ × Rest) Refusal
@@ -137,7 +137,7 @@ named_or_not (Some name) rest = Ok (name, rest)
 unfoldable pub first_line : List ℕ → Result (List ℕ × Rest) Refusal
 first_line text =
     let ws = words (line_in text) in
-    if is_x86 ws then named_or_not (name_of ws) (rest_at (after_bytes start (line_in text)) (behind_line text)) else
+    if is_x86 ws then named_or_not (name_of ws) (rest_at (after_bytes start (line_in text)) (after_line text)) else
     refuse NotX86 1
 
 -- how many bytes there are up to and with the next quote

@@ -2,8 +2,8 @@
 ghost use Rattle.std.specs.Prelude.{ℕ, List, ◌≡◌, ◌<◌, ◌≤◌, ◌+◌, ◌++◌, length, drop, false, IfOk, Ok, Err, if◌then◌else◌};
 ghost use Rattle.litmus_reader.specs.declared.kind.LitmusKind.TheVariants.{Disjunction};
 ghost use Rattle.x86_subset.specs.Form.{next_is, lexeme_of, lexemes, found_of, nothing_found};
-ghost use Rattle.litmus_reader.specs.Condition.{behind_close, opened_at, section_at, behind_tilde, quantifier_at, is_memory, atom_slots};
-ghost use Rattle.litmus_reader.specs.Expression.{in_atom, at_term, behind_term, step, filled, is_done, expression_at, AtTerm, outermost, opened_in, closed_in, may_or, behind_or, Parts, Fails};
+ghost use Rattle.litmus_reader.specs.Condition.{after_close, opened_at, section_at, after_tilde, quantifier_at, is_memory, atom_slots};
+ghost use Rattle.litmus_reader.specs.Expression.{in_atom, at_term, after_term, step, filled, is_done, expression_at, AtTerm, outermost, opened_in, closed_in, may_or, behind_or, Parts, Fails};
 ghost use Rattle.litmus_reader.specs.Outcome.{Answers, place_of, step_of, joined_of};
 
 use crate::kind::{LitmusError, LitmusKind, bad};
@@ -11,12 +11,12 @@ use std::alloc::Global;
 use x86_subset::{Atom, Found, Quantifier, Slot, Token, TokenKind};
 
 /// The tokens after the next closing bracket.
-fn behind_close<'a>(
+fn after_close<'a>(
     bytes: &[u8],
     tokens: &'a [Token],
     last: u32,
 ) -> Result<&'a [Token], LitmusError>
-    ensures is { Answers (λ ts. lexemes bytes.now ts.now) result (behind_close last (lexemes bytes.now tokens.now)) }
+    ensures is { Answers (λ ts. lexemes bytes.now ts.now) result (after_close last (lexemes bytes.now tokens.now)) }
     ensures few { IfOk result (λ ts. length ts.now ≤ length tokens.now) }
 {
     for (i, t) in tokens.iter().enumerate() {
@@ -35,7 +35,7 @@ fn opened<'a>(bytes: &[u8], tokens: &'a [Token], last: u32) -> Result<&'a [Token
         [] => Err(bad(LitmusKind::Condition, last)),
         [t, rest @ ..] => {
             if t.is(TokenKind::LeftSquare) {
-                behind_close(bytes, rest, last)
+                after_close(bytes, rest, last)
             } else {
                 Err(bad(LitmusKind::Condition, t.line))
             }
@@ -61,13 +61,13 @@ pub fn section<'a>(bytes: &[u8], tokens: &'a [Token], last: u32) -> Result<&'a [
     }
 }
 
-fn behind_tilde<'a>(
+fn after_tilde<'a>(
     bytes: &[u8],
     tokens: &'a [Token],
     last: u32,
 ) -> Result<(Quantifier, &'a [Token]), LitmusError>
     ensures is { Answers (λ x. (x.0, lexemes bytes.now x.1.now)) result
-        (behind_tilde last (lexemes bytes.now tokens.now)) }
+        (after_tilde last (lexemes bytes.now tokens.now)) }
     ensures few { IfOk result (λ x. length x.1.now ≤ length tokens.now) }
 {
     match tokens {
@@ -97,7 +97,7 @@ pub fn quantifier<'a>(
         [] => Err(bad(LitmusKind::Condition, last)),
         [t, rest @ ..] => {
             if t.is(TokenKind::Tilde) {
-                behind_tilde(bytes, rest, last)
+                after_tilde(bytes, rest, last)
             } else if t.is_word(bytes, b"exists") {
                 Ok((Quantifier::Exists, rest))
             } else if t.is_word(bytes, b"forall") {
@@ -254,9 +254,9 @@ fn at_or(bytes: &[u8], nest: Nest) -> Step
     }
 }
 
-#[tactic(auto, unfolding(crate::specs::Expression::behind_term))]
-fn behind_term(bytes: &[u8], mixed: bool, nest: Nest, t: &Token) -> Step
-    ensures { step_of bytes.now result ≡ behind_term mixed nest (lexeme_of bytes.now t.now) }
+#[tactic(auto, unfolding(crate::specs::Expression::after_term))]
+fn after_term(bytes: &[u8], mixed: bool, nest: Nest, t: &Token) -> Step
+    ensures { step_of bytes.now result ≡ after_term mixed nest (lexeme_of bytes.now t.now) }
 {
     if t.is(TokenKind::Both) {
         return if mixed {
@@ -329,7 +329,7 @@ fn step_at(bytes: &[u8], place: Place, nest: Nest, t: &Token, next: &[Token]) ->
 {
     match place {
         Place::Term(joined) => at_term(bytes, joined, nest, t, next),
-        Place::Behind(mixed) => behind_term(bytes, mixed, nest, t),
+        Place::Behind(mixed) => after_term(bytes, mixed, nest, t),
         Place::Atom(filled, found) => in_atom(bytes, nest, filled, t, found),
     }
 }

@@ -23,15 +23,15 @@ use Rattle.store_buffer.specs.Contents.{Contents}
 use Rattle.store_buffer.specs.Generator.{asks_drain}
 use Rattle.load_log.specs.Values.{Values}
 use Rattle.perp_base.specs.declared.options.Options.{Options}
-use Rattle.perp_loop.specs.Actions.{write_from, store_step, AreInRange, entries_after, own_steps, logged, due_before, behind, Makes}
+use Rattle.perp_loop.specs.Actions.{write_from, store_step, AreInRange, entries_after, own_steps, logged, due_before, after, Makes}
 use Rattle.tso_runs.specs.Drained.{kind_as, drains_due}
 use Rattle.tso_runs.specs.SharedSteps.{shared_steps, steps_of}
 use Rattle.perp_loop.specs.Sound.{drain_event, IsWriteOf, IsPosition, IsSound}
 use Rattle.perp_loop.specs.Walking.{Walking, slots_left, Finishes, IsFinished, buffer_after, actions_in, owed, Takes, StandsFor, TakesTurn}
 use Rattle.tso_runs.specs.Fits.{IsLawful}
-use Rattle.perp_loop.proofs.Acted.{at_site, agrees-action, steps-action, buffer-action, own-action, in_range-action, values-event, weight_of_action, empty_behind}
+use Rattle.perp_loop.proofs.Acted.{at_site, agrees-action, steps-action, buffer-action, own-action, in_range-action, values-event, weight_of_action, empty_after}
 use Rattle.tso_runs.specs.Turns.{IsCutBetween, IsTurnBefore}
-use Rattle.tso_runs.proofs.Cuts.{action_turn, cut_behind, drain_turn, drains_alone}
+use Rattle.tso_runs.proofs.Cuts.{action_turn, cut_after, drain_turn, drains_alone}
 use Rattle.tso_runs.proofs.Rest.{IsRest, is_rest, rest_drained}
 use Rattle.perp_loop.proofs.Sites.{action_in_range}
 use Rattle.perp_loop.proofs.Slots.{left_at, none_left}
@@ -162,7 +162,7 @@ module _ {P : Type 0} (steps : P → List Step) (ready : P → ℕ → Type 0) (
         is_turn = is_turn;
         takes = takes;
         stands =
-            λ front. stands_more old new front (d ∷ []) takes (λ front rest f cut. cut_behind front (d ∷ []) rest cut
+            λ front. stands_more old new front (d ∷ []) takes (λ front rest f cut. cut_after front (d ∷ []) rest cut
             (is_turn rest f)) ends;
         can_end = ends;
         appends = subst (λ xs. Appends steps ready kept port port' xs) step appends;
@@ -258,7 +258,7 @@ module _ {test : LitmusTest} {table : Table} {options : Options} {t i p : ℕ} {
           let d = due_before action asks buffer in
           let kept = All-drop (λ e. IsWriteOf test t (write_from e)) d buffer.entries sound.own in
           subst (λ (b : Contents). All (λ e. IsWriteOf test t (write_from e)) b.entries) (sym makes.buffered)
-          (own-action test table t i p sound.numbers action (behind action asks buffer) at kept)
+          (own-action test table t i p sound.numbers action (after action asks buffer) at kept)
 
       pub takes_action : asks ≡ asks_drain drains.seed drains.thread drains.rate drains.taken
           → TakesTurn steps ready kept here port (walking test table options t m' buffer' log') port'
@@ -287,7 +287,7 @@ module _ {test : LitmusTest} {table : Table} {options : Options} {t i p : ℕ} {
           let took : take d writes ≡ map write_from (take d es) = take-map write_from d es in
           let agrees : Agrees test (drop d writes) e =
           subst (λ ws. Agrees test ws e) (sym drop_w) (agrees-action test table t i p sound.numbers action v
-          (drop d es) at makes.newest (empty_behind action asks buffer)) in
+          (drop d es) at makes.newest (empty_after action asks buffer)) in
           let buffered : map write_from buffer'.entries ≡ own_after test (drop d writes) e =
           ap (λ (b : Contents). map write_from b.entries) makes.buffered
           ∙ buffer-action test table t i p sound.numbers action v (drop d es) at
@@ -345,7 +345,7 @@ module _ {test : LitmusTest} {table : Table} {options : Options} {t i p : ℕ} {
             takes = takes;
             stands =
                 λ front. stands_more (walking test table options t m buffer log) new front turn takes
-                (λ front rest f cut. cut_behind front turn rest cut (is_turn rest f)) ends;
+                (λ front rest f cut. cut_after front turn rest cut (is_turn rest f)) ends;
             can_end = ends;
             appends = subst (λ xs. Appends steps ready kept port port' xs) step makes.appends;
             owes_less =
@@ -371,7 +371,7 @@ module _ {test : LitmusTest} {table : Table} {options : Options} {t i p : ℕ} {
                 ∙ ap asking (sym next);
             capacity = ap (λ (b : Contents). b.capacity) makes.buffered ∙ sound.capacity;
             in_range = subst (λ (b : Contents). AreInRange b.entries) (sym makes.buffered)
-                (in_range-action test table t i p sound.numbers action (behind action asks buffer)
+                (in_range-action test table t i p sound.numbers action (after action asks buffer)
                 (action_in_range test t p action sound.is_test at) (All-drop (λ e. e.loc < 16)
                 (due_before action asks buffer) buffer.entries sound.in_range));
             own = own';

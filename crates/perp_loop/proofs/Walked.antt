@@ -16,7 +16,7 @@ use Rattle.tso_runs.specs.Fits.{IsLawful}
 use Rattle.tso_runs.specs.SharedSteps.{shared_steps, steps_of}
 use Rattle.perp_loop.specs.Walking.{Walking, Finishes, buffer_after, actions_in, Takes, StandsFor, IsFinished, IsNew, owed, TakesTurn, Stepped, Walks}
 use Rattle.tso_runs.specs.Turns.{IsCutBetween, IsTurnBefore}
-use Rattle.tso_runs.proofs.Cuts.{cut_behind}
+use Rattle.tso_runs.proofs.Cuts.{cut_after}
 use Rattle.perp_loop.proofs.Taken.{AreWhole, stands_more}
 use Rattle.tso_runs.proofs.Turns.{buffer_after-append}
 use Rattle.perp_loop.proofs.Ports.{appends_none, appends_more}
@@ -69,7 +69,7 @@ whole_more : (now new : Walking) (xs turn : List Event) → AreWhole now xs → 
 whole_more now new xs turn whole t is_turn front rest f cut =
     let later : IsCutBetween front (xs ++ (turn ++ rest)) = subst (IsCutBetween front)
     (append_assoc xs turn rest) cut in
-    let between = cut_behind (front ++ xs) turn rest (whole front (turn ++ rest) (t.leads rest f) later)
+    let between = cut_after (front ++ xs) turn rest (whole front (turn ++ rest) (t.leads rest f) later)
     (is_turn rest f) in
     subst (λ es. IsCutBetween es rest) (append_assoc front xs turn) between
 

@@ -26,7 +26,7 @@ pub record IsRun (words : List (List ℕ)) (old : View) (job : Job) (bytes : Lis
   pub command_is : command_of words ≡ Some (Run job)
   pub told : old.bytes ≡ Some bytes
 
--- the statuses behind which a whole run stands
+-- the statuses after which a whole run stands
 abbrev pub HasRun : Status → Type 0
 HasRun status = (status ≡ Whole) ⊎ (status ≡ WriteFault)
 

@@ -34,15 +34,15 @@ impl Line {
     }
 
     /// The line of a number between two texts, the second with the line's end.
-    pub fn of_number(before: &str, number: u32, behind: &str) -> Line
+    pub fn of_number(before: &str, number: u32, after: &str) -> Line
         requires before { length before.now ≤ 40 }
-        requires behind { length behind.now ≤ 40 }
-        ensures { result ≡ before.now ++ decimal number ++ behind.now }
+        requires after { length after.now ≤ 40 }
+        ensures { result ≡ before.now ++ decimal number ++ after.now }
     {
         let mut line = ArrayString::new();
         line.push_str(before);
         push_number(&mut line, number);
-        line.push_str(behind);
+        line.push_str(after);
         Line { text: line }
     }
 

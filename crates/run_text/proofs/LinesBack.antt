@@ -108,10 +108,10 @@ some_line (b ∷ bs) = by_byte (b == 10)
     by_byte true = omega arith
     by_byte false = onto (lines_of (bs ++ 10 ∷ []))
 
-pub lines_behind : (front rest : List ℕ)
+pub lines_after : (front rest : List ℕ)
     → lines_of ((front ++ 10 ∷ []) ++ rest) ≡ lines_of (front ++ 10 ∷ []) ++ lines_of rest
-lines_behind [] rest = refl
-lines_behind (b ∷ bs) rest = by_byte (lines_behind bs rest) (b == 10) refl
+lines_after [] rest = refl
+lines_after (b ∷ bs) rest = by_byte (lines_after bs rest) (b == 10) refl
   where
     by_byte : lines_of ((bs ++ 10 ∷ []) ++ rest) ≡ lines_of (bs ++ 10 ∷ []) ++ lines_of rest
         → (v : Bool) → (b == 10) ≡ v
@@ -129,11 +129,11 @@ lines_behind (b ∷ bs) rest = by_byte (lines_behind bs rest) (b == 10) refl
 abbrev pub IsFed : List ℕ → Type 0
 IsFed line = (rest : List ℕ) → lines_of (line ++ rest) ≡ line ∷ lines_of rest
 
-pub behind_plain : (front line : List ℕ) → list_all is_no_feed front ≡ true → IsFed line → IsFed (front ++ line)
-behind_plain [] line h f rest = f rest
-behind_plain (b ∷ bs) line h f rest =
+pub after_plain : (front line : List ℕ) → list_all is_no_feed front ≡ true → IsFed line → IsFed (front ++ line)
+after_plain [] line h f rest = f rest
+after_plain (b ∷ bs) line h f rest =
     let p = and_parts (is_no_feed b) (list_all is_no_feed bs) h in
-    with_byte b ((bs ++ line) ++ rest) (no_feed (b == 10) p.0) ∙ ap (onto_first b) (behind_plain bs line p.1 f rest)
+    with_byte b ((bs ++ line) ++ rest) (no_feed (b == 10) p.0) ∙ ap (onto_first b) (after_plain bs line p.1 f rest)
   where
     no_feed : (v : Bool) → cond v false true ≡ true → v ≡ false
     no_feed true e = cc

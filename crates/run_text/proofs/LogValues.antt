@@ -7,26 +7,26 @@ use Rattle.run_text.specs.Logs.{as_log, in_front, numbers_of}
 use Rattle.run_text.specs.Numbers.{large_number}
 
 -- numbers after these
-abbrev pub behind : List ℕ → Option (List ℕ) → Option (List ℕ)
-behind done None = None
-behind done (Some vs) = Some (done ++ vs)
+abbrev pub after : List ℕ → Option (List ℕ) → Option (List ℕ)
+after done None = None
+after done (Some vs) = Some (done ++ vs)
 
-pub behind_none : (o : Option (List ℕ)) → behind [] o ≡ o
-behind_none None = refl
-behind_none (Some vs) = refl
+pub after_none : (o : Option (List ℕ)) → after [] o ≡ o
+after_none None = refl
+after_none (Some vs) = refl
 
-behind_one : (done : List ℕ) (v : ℕ) (o : Option (List ℕ))
-    → behind done (in_front (Some v) o) ≡ behind (done ++ v ∷ []) o
-behind_one done v None = refl
-behind_one done v (Some vs) = ap Some (sym (append_assoc done (v ∷ []) vs))
+after_one : (done : List ℕ) (v : ℕ) (o : Option (List ℕ))
+    → after done (in_front (Some v) o) ≡ after (done ++ v ∷ []) o
+after_one done v None = refl
+after_one done v (Some vs) = ap Some (sym (append_assoc done (v ∷ []) vs))
 
 -- one number more
 pub one_more : (done : List ℕ) (v : ℕ) (w : List ℕ) (ws words : List (List ℕ)) (all : Option (List ℕ))
-    → Some v ≡ large_number w → words ≡ w ∷ ws → behind done (numbers_of words) ≡ all
-    → behind (done ++ v ∷ []) (numbers_of ws) ≡ all
+    → Some v ≡ large_number w → words ≡ w ∷ ws → after done (numbers_of words) ≡ all
+    → after (done ++ v ∷ []) (numbers_of ws) ≡ all
 one_more done v w ws words all h e left =
-    sym (behind_one done v (numbers_of ws)) ∙ ap (λ o. behind done (in_front o (numbers_of ws))) h
-    ∙ ap (λ ws. behind done (numbers_of ws)) (sym e) ∙ left
+    sym (after_one done v (numbers_of ws)) ∙ ap (λ o. after done (in_front o (numbers_of ws))) h
+    ∙ ap (λ ws. after done (numbers_of ws)) (sym e) ∙ left
 
 abbrev LogOf : ℕ → ℕ → Option (List ℕ) → Option Values
 LogOf columns n all = option_and_then (as_log columns n) all
@@ -38,40 +38,40 @@ no_log columns n vs ne =
 
 -- a word that is no number
 pub no_number : (columns n : ℕ) (done : List ℕ) (w : List ℕ) (ws words : List (List ℕ)) (all : Option (List ℕ))
-    → None ≡ large_number w → words ≡ w ∷ ws → behind done (numbers_of words) ≡ all → None ≡ LogOf columns n all
+    → None ≡ large_number w → words ≡ w ∷ ws → after done (numbers_of words) ≡ all → None ≡ LogOf columns n all
 no_number columns n done w ws words all h e left =
-    let none : all ≡ None = sym left ∙ ap (λ ws. behind done (numbers_of ws)) e
-    ∙ ap (λ o. behind done (in_front o (numbers_of ws))) (sym h) in
+    let none : all ≡ None = sym left ∙ ap (λ ws. after done (numbers_of ws)) e
+    ∙ ap (λ o. after done (in_front o (numbers_of ws))) (sym h) in
     sym (ap (LogOf columns n) none)
 
 -- more numbers than the log has
 too_many_by : (columns n v : ℕ) (done : List ℕ) (o : Option (List ℕ)) → length done ≡ columns * n
-    → None ≡ LogOf columns n (behind done (in_front (Some v) o))
+    → None ≡ LogOf columns n (after done (in_front (Some v) o))
 too_many_by columns n v done None e = refl
 too_many_by columns n v done (Some vs) e =
     sym (no_log columns n (done ++ v ∷ vs) (λ same. let l = length-append done (v ∷ vs) in absurd (omega arith)))
 
 pub too_many : (columns n v : ℕ) (done : List ℕ) (w : List ℕ) (ws words : List (List ℕ)) (all : Option (List ℕ))
-    → length done ≡ columns * n → Some v ≡ large_number w → words ≡ w ∷ ws → behind done (numbers_of words) ≡ all
+    → length done ≡ columns * n → Some v ≡ large_number w → words ≡ w ∷ ws → after done (numbers_of words) ≡ all
     → None ≡ LogOf columns n all
 too_many columns n v done w ws words all long h e left =
     too_many_by columns n v done (numbers_of ws) long
-    ∙ ap (λ o. LogOf columns n (behind done (in_front o (numbers_of ws)))) h
-    ∙ ap (λ ws. LogOf columns n (behind done (numbers_of ws))) (sym e) ∙ ap (LogOf columns n) left
+    ∙ ap (λ o. LogOf columns n (after done (in_front o (numbers_of ws)))) h
+    ∙ ap (λ ws. LogOf columns n (after done (numbers_of ws))) (sym e) ∙ ap (LogOf columns n) left
 
 ended : (done : List ℕ) (words : List (List ℕ)) (all : Option (List ℕ)) → words ≡ []
-    → behind done (numbers_of words) ≡ all → all ≡ Some done
-ended done words all e left = sym left ∙ ap (λ ws. behind done (numbers_of ws)) e ∙ ap Some (append-nil done)
+    → after done (numbers_of words) ≡ all → all ≡ Some done
+ended done words all e left = sym left ∙ ap (λ ws. after done (numbers_of ws)) e ∙ ap Some (append-nil done)
 
 -- fewer
 pub too_few : (columns n : ℕ) (done : List ℕ) (words : List (List ℕ)) (all : Option (List ℕ))
-    → length done < columns * n → words ≡ [] → behind done (numbers_of words) ≡ all → None ≡ LogOf columns n all
+    → length done < columns * n → words ≡ [] → after done (numbers_of words) ≡ all → None ≡ LogOf columns n all
 too_few columns n done words all short e left =
     sym (ap (LogOf columns n) (ended done words all e left) ∙ no_log columns n done (λ same. omega arith))
 
 -- exactly as many
 pub exactly : (columns n : ℕ) (log : Values) (words : List (List ℕ)) (all : Option (List ℕ)) → log.columns ≡ columns
-    → log.spare ≡ 0 → length log.values ≡ columns * n → words ≡ [] → behind log.values (numbers_of words) ≡ all
+    → log.spare ≡ 0 → length log.values ≡ columns * n → words ≡ [] → after log.values (numbers_of words) ≡ all
     → Some log ≡ LogOf columns n all
 exactly columns n log words all c s long e left =
     let made : log ≡ record { columns = columns; values = log.values; spare = 0 } = λ i. record {

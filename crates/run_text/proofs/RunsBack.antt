@@ -17,7 +17,7 @@ use Rattle.run_text.specs.Lines.{has_words, lines_of, unless_refused}
 use Rattle.run_text.specs.Runs.{run_text_of}
 use Rattle.run_text.specs.Sections.{iterations_of, parted, split_of, within_iterations}
 use Rattle.run_text.proofs.EventsBack.{event_back}
-use Rattle.run_text.proofs.LinesBack.{IsFed, behind_plain, fed_lines, lines_behind, lines_together}
+use Rattle.run_text.proofs.LinesBack.{IsFed, after_plain, fed_lines, lines_after, lines_together}
 use Rattle.run_text.proofs.SectionsBack.{parted_here}
 use Rattle.run_text.proofs.WordsBack.{IsWord, by_digits, cut, decimal_is_word, large_back, wide}
 
@@ -26,9 +26,9 @@ use Rattle.run_text.proofs.WordsBack.{IsWord, by_digits, cut, decimal_is_word, l
 digit_is_no_feed : (c : ℕ) → 48 ≤ c → c ≤ 57 → is_no_feed c ≡ true
 digit_is_no_feed c h k = rw (ne_eqb c 10 (λ e. absurd (omega arith))) refl
 
-behind_decimal : (n : ℕ) (line : List ℕ) → n < 2 ^ 64 → IsFed line → IsFed (decimal n ++ line)
-behind_decimal n line h f =
-    behind_plain (decimal n) line (by_digits is_no_feed digit_is_no_feed (decimal n) (decimal_is_IsNumeral n h).0.1) f
+after_decimal : (n : ℕ) (line : List ℕ) → n < 2 ^ 64 → IsFed line → IsFed (decimal n ++ line)
+after_decimal n line h f =
+    after_plain (decimal n) line (by_digits is_no_feed digit_is_no_feed (decimal n) (decimal_is_IsNumeral n h).0.1) f
 
 feed_fed : IsFed (codes "\n")
 feed_fed rest = refl
@@ -38,17 +38,17 @@ kind_fed Push h = λ rest. refl
 kind_fed Drain h = λ rest. refl
 kind_fed Fence h = λ rest. refl
 kind_fed (Read v) h =
-    behind_plain (codes " read ") (decimal v ++ codes "\n") refl (behind_decimal v (codes "\n") h feed_fed)
+    after_plain (codes " read ") (decimal v ++ codes "\n") refl (after_decimal v (codes "\n") h feed_fed)
 kind_fed (Exchange v) h =
-    behind_plain (codes " exchange ") (decimal v ++ codes "\n") refl (behind_decimal v (codes "\n") h feed_fed)
+    after_plain (codes " exchange ") (decimal v ++ codes "\n") refl (after_decimal v (codes "\n") h feed_fed)
 
 -- a number and a blank in front of a line
 number_fed : (n : ℕ) (line : List ℕ) → n < 2 ^ 32 → IsFed line → IsFed (decimal n ++ (codes " " ++ line))
-number_fed n line h f = behind_decimal n (codes " " ++ line) (wide n h) (λ rest. ap (onto_first 32) (f rest))
+number_fed n line h f = after_decimal n (codes " " ++ line) (wide n h) (λ rest. ap (onto_first 32) (f rest))
 
 line_fed : (e : RunEvent) → IsOfWidth e → IsFed (line_of e)
 line_fed e h =
-    let place = behind_decimal e.place (kind_text e.kind) (wide e.place h.place) (kind_fed e.kind h.value) in
+    let place = after_decimal e.place (kind_text e.kind) (wide e.place h.place) (kind_fed e.kind h.value) in
     let iteration = number_fed e.iteration (decimal e.place ++ kind_text e.kind) h.iteration place in
     let thread = number_fed e.thread (decimal e.iteration ++ (codes " " ++ (decimal e.place ++ kind_text e.kind)))
     h.thread iteration in
@@ -61,7 +61,7 @@ section_line n = codes "%events " ++ (decimal n ++ codes "\n")
 
 section_fed : (n : ℕ) → n < 2 ^ 64 → IsFed (section_line n)
 section_fed n h =
-    behind_plain (codes "%events ") (decimal n ++ codes "\n") refl (behind_decimal n (codes "\n") h feed_fed)
+    after_plain (codes "%events ") (decimal n ++ codes "\n") refl (after_decimal n (codes "\n") h feed_fed)
 
 is_heading : IsWord (codes "%events")
 unfolding is_blank
@@ -89,9 +89,9 @@ run_lines n events h w =
     section_fed n h (flat_map line_of events)
     ∙ ap (λ ls. section_line n ∷ ls) (fed_lines line_of events (λ e k lt. line_fed (get_or events k e) (w k e lt)))
 
-behind_litmus : (litmus rest : List ℕ) → EndsLine litmus → lines_of (litmus ++ rest) ≡ lines_of litmus ++ lines_of rest
-behind_litmus litmus rest h =
-    subst (λ l. lines_of (l ++ rest) ≡ lines_of l ++ lines_of rest) (sym h.is) (lines_behind h.front rest)
+after_litmus : (litmus rest : List ℕ) → EndsLine litmus → lines_of (litmus ++ rest) ≡ lines_of litmus ++ lines_of rest
+after_litmus litmus rest h =
+    subst (λ l. lines_of (l ++ rest) ≡ lines_of l ++ lines_of rest) (sym h.is) (lines_after h.front rest)
 
 parts_back : (litmus : List ℕ) (n : ℕ) (events : List RunEvent) → CanLead litmus → 1 ≤ n → n ≤ 100000
     → All IsOfWidth events
@@ -99,7 +99,7 @@ parts_back : (litmus : List ℕ) (n : ℕ) (events : List RunEvent) → CanLead 
 parts_back litmus n events h low high w =
     let front = lines_of litmus in
     let lines : lines_of (litmus ++ run_text_of n events) ≡ front ++ section_line n ∷ map line_of events =
-    behind_litmus litmus (run_text_of n events) h.ends ∙ ap (λ ls. front ++ ls) (run_lines n events (omega arith) w) in
+    after_litmus litmus (run_text_of n events) h.ends ∙ ap (λ ls. front ++ ls) (run_lines n events (omega arith) w) in
     ap (parted (codes "%events")) lines
     ∙ parted_here (codes "%events") front (section_line n) (map line_of events) n h.plain (section_tells n low high)
     ∙ ap (λ l. Some (record { litmus = l; iterations = n; line = length front + 2; lines = map line_of events }))

@@ -51,8 +51,8 @@ lines_at text this at n is =
 -- ---- the section of lines, by their first
 
 -- a section of the lines after this one
-abbrev one_behind : List ℕ → Split → Split
-one_behind l s = record { litmus = l ++ s.litmus; iterations = s.iterations; line = s.line + 1; lines = s.lines }
+abbrev one_after : List ℕ → Split → Split
+one_after l s = record { litmus = l ++ s.litmus; iterations = s.iterations; line = s.line + 1; lines = s.lines }
 
 -- the section after the line at place k
 abbrev told_at : List ℕ → List (List ℕ) → ℕ → Option Split
@@ -65,7 +65,7 @@ parted_here heading l ls n e =
     ∙ ap (option_map (parted_at (l ∷ ls) 0)) e
 
 one_on : (l : List ℕ) (ls : List (List ℕ)) (k : ℕ) (o : Option ℕ)
-    → option_map (parted_at (l ∷ ls) (suc k)) o ≡ option_map (one_behind l) (option_map (parted_at ls k) o)
+    → option_map (parted_at (l ∷ ls) (suc k)) o ≡ option_map (one_after l) (option_map (parted_at ls k) o)
 one_on l ls k None = refl
 one_on l ls k (Some n) =
     let line : suc k + 2 ≡ k + 2 + 1 = omega arith in
@@ -79,12 +79,12 @@ one_on l ls k (Some n) =
 
 later_by : (heading l : List ℕ) (ls : List (List ℕ)) (o : Option ℕ)
     → option_and_then (told_at heading (l ∷ ls)) (option_map suc o)
-    ≡ option_map (one_behind l) (option_and_then (told_at heading ls) o)
+    ≡ option_map (one_after l) (option_and_then (told_at heading ls) o)
 later_by heading l ls None = refl
 later_by heading l ls (Some k) = one_on l ls k (iterations_of heading (words (get_or ls k [])))
 
 parted_later : (heading l : List ℕ) (ls : List (List ℕ)) → iterations_of heading (words l) ≡ None
-    → parted heading (l ∷ ls) ≡ option_map (one_behind l) (parted heading ls)
+    → parted heading (l ∷ ls) ≡ option_map (one_after l) (parted heading ls)
 parted_later heading l ls e =
     ap (option_and_then (told_at heading (l ∷ ls))) (first_later (is_section_line heading) l ls (ap is_some e))
     ∙ later_by heading l ls (position (is_section_line heading) ls)
@@ -92,27 +92,27 @@ parted_later heading l ls e =
 -- ---- the search from a place on
 
 -- a section of lines, the first of which has this number, after this text
-abbrev pub behind : ℕ → List ℕ → Split → Split
-behind line front s =
+abbrev pub after : ℕ → List ℕ → Split → Split
+after line front s =
     record { litmus = front ++ s.litmus; iterations = s.iterations; line = line + s.line - 1; lines = s.lines }
 
-pub all_before : (o : Option Split) → option_map (behind 1 []) o ≡ o
+pub all_before : (o : Option Split) → option_map (after 1 []) o ≡ o
 all_before None = refl
 all_before (Some s) =
     let line : 1 + s.line - 1 ≡ s.line = omega arith in
     λ i. Some (record { litmus = s.litmus; iterations = s.iterations; line = line i; lines = s.lines })
 
-one_more_behind : (line : ℕ) (front l : List ℕ) (o : Option Split)
-    → option_map (behind line front) (option_map (one_behind l) o) ≡ option_map (behind (line + 1) (front ++ l)) o
-one_more_behind line front l None = refl
-one_more_behind line front l (Some s) =
+one_more_after : (line : ℕ) (front l : List ℕ) (o : Option Split)
+    → option_map (after line front) (option_map (one_after l) o) ≡ option_map (after (line + 1) (front ++ l)) o
+one_more_after line front l None = refl
+one_more_after line front l (Some s) =
     let number : line + (s.line + 1) - 1 ≡ line + 1 + s.line - 1 = omega arith in
     let text : front ++ (l ++ s.litmus) ≡ (front ++ l) ++ s.litmus = sym (append_assoc front l s.litmus) in
     λ i. Some (record { litmus = text i; iterations = s.iterations; line = number i; lines = s.lines })
 
 -- what the lines from a place on give, after the text in front of it
 abbrev pub from_place : List ℕ → List ℕ → ℕ → ℕ → Option Split
-from_place heading text line at = option_map (behind line (take at text)) (parted heading (lines_of (drop at text)))
+from_place heading text line at = option_map (after line (take at text)) (parted heading (lines_of (drop at text)))
 
 pub section_here : (heading text this : List ℕ) (at n line it : ℕ) (all : Option Split) → IsLine text this at n
     → Some it ≡ iterations_of heading (words this) → from_place heading text line at ≡ all
@@ -126,9 +126,9 @@ pub section_here : (heading text this : List ℕ) (at n line it : ℕ) (all : Op
 section_here heading text this at n line it all is e left =
     let ls = lines_of (drop (at + n) text) in
     let first : Split = record { litmus = []; iterations = it; line = 2; lines = ls } in
-    let found : from_place heading text line at ≡ Some (behind line (take at text) first)
-    = ap (λ ls. option_map (behind line (take at text)) (parted heading ls)) (lines_at text this at n is)
-    ∙ ap (option_map (behind line (take at text))) (parted_here heading this ls it (sym e)) in
+    let found : from_place heading text line at ≡ Some (after line (take at text) first)
+    = ap (λ ls. option_map (after line (take at text)) (parted heading ls)) (lines_at text this at n is)
+    ∙ ap (option_map (after line (take at text))) (parted_here heading this ls it (sym e)) in
     let front : take at text ≡ take at text ++ [] = sym (append-nil (take at text)) in
     let number : line + 1 ≡ line + 2 - 1 = omega arith in
     let rest = tail_is text (at + n) in
@@ -142,13 +142,13 @@ section_later heading text this at n line all is e left =
     let ls = lines_of (drop (at + n) text) in
     let front : take (at + n) text ≡ take at text ++ this
     = take-add at n text ∙ ap (λ l. take at text ++ l) (sym is.cut) in
-    ap (λ front. option_map (behind (line + 1) front) (parted heading ls)) front
-    ∙ sym (one_more_behind line (take at text) this (parted heading ls))
-    ∙ sym (ap (option_map (behind line (take at text))) (parted_later heading this ls (sym e)))
-    ∙ sym (ap (λ ls. option_map (behind line (take at text)) (parted heading ls)) (lines_at text this at n is))
+    ap (λ front. option_map (after (line + 1) front) (parted heading ls)) front
+    ∙ sym (one_more_after line (take at text) this (parted heading ls))
+    ∙ sym (ap (option_map (after line (take at text))) (parted_later heading this ls (sym e)))
+    ∙ sym (ap (λ ls. option_map (after line (take at text)) (parted heading ls)) (lines_at text this at n is))
     ∙ left
 
 pub no_section : (heading text : List ℕ) (line at : ℕ) (all : Option Split) → length text ≤ at
     → from_place heading text line at ≡ all → None ≡ all
 no_section heading text line at all le left =
-    sym (ap (λ t. option_map (behind line (take at text)) (parted heading (lines_of t))) (drop_all at text le)) ∙ left
+    sym (ap (λ t. option_map (after line (take at text)) (parted heading (lines_of t))) (drop_all at text le)) ∙ left

@@ -17,10 +17,10 @@ use Rattle.run_text.proofs.LinesBack.{front_cuts, line_cuts, lines_together, res
 put_together : (lines : List (List ℕ)) (k : ℕ) → k < length lines
     → concat lines ≡ concat (take k lines) ++ (get_or lines k [] ++ concat (drop (k + 1) lines))
 put_together lines k lt =
-    let behind : drop k lines ≡ get_or lines k [] ∷ drop (k + 1) lines =
+    let after : drop k lines ≡ get_or lines k [] ∷ drop (k + 1) lines =
     drop-cons lines k [] lt ∙ ap (λ m. get_or lines k [] ∷ drop m lines) (sym (add-one k)) in
     ap concat (sym (take-append-drop k lines)) ∙ concat-append (take k lines) (drop k lines)
-    ∙ ap (λ ls. concat (take k lines) ++ concat ls) behind
+    ∙ ap (λ ls. concat (take k lines) ++ concat ls) after
 
 parted_so : (heading input : List ℕ) (k n : ℕ) → position (is_section_line heading) (lines_of input) ≡ Some k
     → iterations_of heading (words (get_or (lines_of input) k [])) ≡ Some n
@@ -66,10 +66,10 @@ pub parts_of_input : SectionsPartInputs
 parts_of_input heading input s h = by_place heading input s (position (is_section_line heading) (lines_of input)) refl h
 
 -- lines of which this is the first section line
-place_behind : (heading : List ℕ) (front : List (List ℕ)) (l : List ℕ) (more : List (List ℕ))
+place_after : (heading : List ℕ) (front : List (List ℕ)) (l : List ℕ) (more : List (List ℕ))
     → All (λ m. is_section_line heading m ≡ false) front → is_section_line heading l ≡ true
     → position (is_section_line heading) (front ++ l ∷ more) ≡ Some (length front)
-place_behind heading front l more h e =
+place_after heading front l more h e =
     let p = is_section_line heading in
     let all = front ++ l ∷ more in
     let long : length front < length all = omega (arith, length-append front (l ∷ more)) in
@@ -95,9 +95,9 @@ parted_here heading front l more n h e =
     ap (λ m. iterations_of heading (words m)) at ∙ e in
     let section : is_section_line heading l ≡ true = rw e refl in
     let before : take k all ≡ front = take_at front (l ∷ more) k refl in
-    let behind : drop (k + 1) all ≡ more = drop-append-add front (l ∷ more) 1 in
+    let after : drop (k + 1) all ≡ more = drop-append-add front (l ∷ more) 1 in
     ap (option_and_then (λ i. option_map (parted_at all i) (iterations_of heading (words (get_or all i [])))))
-    (place_behind heading front l more h section)
+    (place_after heading front l more h section)
     ∙ ap (option_map (parted_at all k)) tells
     ∙ ap (λ ls. Some (record { litmus = concat ls; iterations = n; line = k + 2; lines = drop (k + 1) all })) before
-    ∙ ap (λ ls. Some (record { litmus = concat front; iterations = n; line = k + 2; lines = ls })) behind
+    ∙ ap (λ ls. Some (record { litmus = concat front; iterations = n; line = k + 2; lines = ls })) after

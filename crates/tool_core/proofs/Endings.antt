@@ -264,7 +264,7 @@ too_long_of words old new done out_old out_new untouched _ (ended_refused _ (no_
     λ command input told long.
     absurd (long_is_not_taken words old new command taking input taken told long took)
 
--- ---- what is left behind
+-- ---- what is left after
 
 pub ends_of : (words : List (List ℕ)) (old new : View) (done : Closed) (out_old out_new : View) (untouched : Type 0)
     (status : ToolStatus)

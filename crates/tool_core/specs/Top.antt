@@ -186,7 +186,7 @@ pub record IsField (words : List (List ℕ)) (done : Closed) (status : ToolStatu
   pub other_status : (status ≡ Core Whole → ⊥) → (status ≡ Core WriteFault → ⊥) → (status ≡ Core Memory → ⊥)
       → IsStill done
 
--- the statuses behind which a whole run stands
+-- the statuses after which a whole run stands
 abbrev pub HasRun : ToolStatus → Type 0
 HasRun status = (status ≡ Core Whole) ⊎ (status ≡ Core WriteFault)
 

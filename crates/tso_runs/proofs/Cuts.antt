@@ -3,14 +3,14 @@ use Rattle.std.proofs.Common.{◌≡◌, ◌∙◌, refl, sym, ap, ℕ, true, fa
 use Rattle.std.specs.List.{AllByRecursion as Each, AllZip}
 use Rattle.tso_machine.specs.Event.{Event, Kind, Drain, is_drain, is_drain_kind}
 use Rattle.tso_machine.specs.Part.{Fills}
-use Rattle.tso_runs.specs.Turns.{IsCutBetween, IsTurnBefore, joined, turns_behind, turns_of}
+use Rattle.tso_runs.specs.Turns.{IsCutBetween, IsTurnBefore, joined, turns_after, turns_of}
 
 abbrev pub AreDrains : List Event → Type 0
 AreDrains es = Each (λ e. is_drain e ≡ true) es
 
 -- an event that is no Drain ends a turn
 pub turns_front : (held ds : List Event) (e : Event) (rest : List Event) → AreDrains ds → is_drain e ≡ false
-    → turns_behind held (ds ++ e ∷ rest) ≡ (held ++ (ds ++ e ∷ [])) ∷ turns_of rest
+    → turns_after held (ds ++ e ∷ rest) ≡ (held ++ (ds ++ e ∷ [])) ∷ turns_of rest
 turns_front held [] e rest drains acts = rw acts refl
 turns_front held (d ∷ ds) e rest drains acts =
     rw (drains.0)
@@ -25,7 +25,7 @@ action_turn ds e rest drains acts = ap turns_of (append_assoc ds (e ∷ []) rest
 abbrev singles : List Event → List (List Event)
 singles es = map (λ e. e ∷ []) es ++ [] ∷ []
 
-all_singles : (held part : List Event) → AreDrains part → turns_behind held part ≡ singles (held ++ part)
+all_singles : (held part : List Event) → AreDrains part → turns_after held part ≡ singles (held ++ part)
 all_singles held [] drains = ap singles (sym (append-nil held))
 all_singles held (e ∷ es) drains =
     rw (drains.0) (all_singles (held ++ e ∷ []) es drains.1 ∙ ap singles (append_assoc held (e ∷ []) es))
@@ -57,9 +57,9 @@ joined-append (first ∷ turns) turn =
 pub cut_at_front : (rest : List Event) → IsCutBetween [] rest
 cut_at_front rest = record { turns = []; whole = refl; others = refl }
 
-pub cut_behind : (front turn rest : List Event) → IsCutBetween front (turn ++ rest) → IsTurnBefore turn rest
+pub cut_after : (front turn rest : List Event) → IsCutBetween front (turn ++ rest) → IsTurnBefore turn rest
     → IsCutBetween (front ++ turn) rest
-cut_behind front turn rest cut is = record {
+cut_after front turn rest cut is = record {
   turns = cut.turns ++ turn ∷ [];
   whole = ap (λ l. l ++ turn) cut.whole ∙ joined-append cut.turns turn;
   others = ap turns_of (append_assoc front turn rest)

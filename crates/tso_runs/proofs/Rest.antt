@@ -13,7 +13,7 @@ use Rattle.perp_base.proofs.Lists.{each_append}
 use Rattle.store_buffer.specs.Generator.{asks_drain}
 use Rattle.perp_base.specs.declared.options.Options.{Options}
 use Rattle.tso_runs.specs.Drained.{kind_as, drains_due, pushed, DrainsWhereDue}
-use Rattle.tso_runs.specs.Turns.{turn_action, turn_drains, turns_behind, turns_of}
+use Rattle.tso_runs.specs.Turns.{turn_action, turn_drains, turns_after, turns_of}
 use Rattle.tso_runs.proofs.Cuts.{AreDrains}
 
 -- the event with these parts
@@ -79,8 +79,8 @@ module _ (options : Options) (t : ℕ) where
   -- the rule of the seed, and its form with Drains counted
   abbrev Same : List Event → Type 0
   Same part = (held : List Event) (j b : ℕ) → AreDrains held →
-      (DrainsWhereDue options t j b (turns_behind held part) → AreDue options t j b (counted_from (length held) part))
-      × (AreDue options t j b (counted_from (length held) part) → DrainsWhereDue options t j b (turns_behind held part))
+      (DrainsWhereDue options t j b (turns_after held part) → AreDue options t j b (counted_from (length held) part))
+      × (AreDue options t j b (counted_from (length held) part) → DrainsWhereDue options t j b (turns_after held part))
 
   same_turn : (ds : List Event) (e : Event) (es : List Event) (j b : ℕ) → AreDrains ds → is_drain e ≡ false → Same es →
       let counted : List Counted = record { drains = length ds; event = e } ∷ counted_from 0 es in
@@ -94,8 +94,8 @@ module _ (options : Options) (t : ℕ) where
   same_drain : (held : List Event) (d : Event) (es : List Event) (j b : ℕ) → AreDrains held → is_drain d ≡ true
       → Same es →
       let counted = counted_from (length held + 1) es in
-      (DrainsWhereDue options t j b (turns_behind (held ++ d ∷ []) es) → AreDue options t j b counted)
-      × (AreDue options t j b counted → DrainsWhereDue options t j b (turns_behind (held ++ d ∷ []) es))
+      (DrainsWhereDue options t j b (turns_after (held ++ d ∷ []) es) → AreDue options t j b counted)
+      × (AreDue options t j b counted → DrainsWhereDue options t j b (turns_after (held ++ d ∷ []) es))
   same_drain held d es j b drains drain same =
       let long : length (held ++ d ∷ []) ≡ length held + 1 = length-append held (d ∷ []) in
       let all = each_append (λ (e : Event). is_drain e ≡ true) held (d ∷ []) drains (drain, tt) in

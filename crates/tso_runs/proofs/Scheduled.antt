@@ -18,7 +18,7 @@ use Rattle.perp_base.specs.declared.options.Options.{Options}
 use Rattle.perp_base.specs.declared.schedule.Schedule.{Schedule}
 use Rattle.perp_base.specs.declared.schedule.Schedule.TheVariants.{Turns, Seeded}
 use Rattle.tso_runs.specs.Schedule.{EachScheduleHasOneRun, Follows, IsScheduled, named, threads_left}
-use Rattle.tso_runs.specs.Turns.{joined, turns_behind, turns_of}
+use Rattle.tso_runs.specs.Turns.{joined, turns_after, turns_of}
 use Rattle.tso_runs.proofs.Events.{updated-other, updated-same}
 use Rattle.tso_runs.proofs.Fitting.{part_of_past}
 use Rattle.tso_runs.proofs.Rest.{IsRest, is_rest, rest_drained}
@@ -84,14 +84,14 @@ long_step : (ls : List (List Event)) (l : List Event) (ks : List (List Event)) (
 long_step ls l ks true h = h
 long_step ls l ks false h = lt-ltb 0 (suc (length ks)) (omega arith)
 
-turns_long : (held part : List Event) → nat_lt 0 (length (turns_behind held part)) ≡ true
+turns_long : (held part : List Event) → nat_lt 0 (length (turns_after held part)) ≡ true
 turns_long held [] =
     lt-ltb 0 (length (map (λ d. d ∷ []) held ++ [] ∷ [])) (omega (
       arith,
       length-append (map (λ (d : Event). d ∷ []) held) ([] ∷ []),
     ))
 turns_long held (e ∷ es) =
-    long_step (turns_behind (held ++ e ∷ []) es) (held ++ e ∷ []) (turns_behind [] es) (is_drain e)
+    long_step (turns_after (held ++ e ∷ []) es) (held ++ e ∷ []) (turns_after [] es) (is_drain e)
     (turns_long (held ++ e ∷ []) es)
 
 left_live : (o : Option Doing) (part : List Event) → nat_lt 0 (length (left_of o part)) ≡ is_some o
@@ -154,7 +154,7 @@ part_other t u turn rest h ne =
     (each_weaker (λ (e : Event). e.thread ≡ t) (λ (e : Event). (e.thread == u) ≡ false)
     (λ e k. ne_eqb e.thread u (λ m. ne (sym k ∙ m))) turn h))
 
--- what is left behind a turn
+-- what is left after a turn
 left_behind : (doing : ℕ → Option Doing) (t : ℕ) (d : Doing) (next : Option Doing) (turn rest : List Event)
     → doing t ≡ Some d → AreOf t turn → turns_of (part_of t (turn ++ rest)) ≡ turn ∷ left_of next (part_of t rest)
     → (u : ℕ) → updated (left_at doing (turn ++ rest)) t (drop 1 (left_at doing (turn ++ rest) t)) u

@@ -463,7 +463,7 @@ module _ (test : LitmusTest) (options : Options) (t : ℕ) where
       let e = nothing_left test options t j part r in
       record { turn = []; later = []; whole = e; cut = ap turns_of e; own = tt; is = λ k. refl; rest = refl }
 
-  -- the turn of the state can stand in front of what is left behind it
+  -- the turn of the state can stand in front of what is left after it
   pub record Built (s : State) (slots : List Slot) (j : ℕ) (buffer : List Write) : Type 0 where
     pub steps : Steps test s (turn_by s slots j buffer)
     pub own : AreOf t (turn_by s slots j buffer)

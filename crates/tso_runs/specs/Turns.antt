@@ -6,13 +6,13 @@ use Rattle.tso_machine.specs.Event.{Event, is_drain}
 
 -- The turns of a part after these Drains: each event that is no Drain with the Drains directly before it, then each
 -- Drain that is left by itself, and at the end an empty turn.
-abbrev pub turns_behind : List Event → List Event → List (List Event)
-turns_behind drains [] = map (λ d. d ∷ []) drains ++ [] ∷ []
-turns_behind drains (e ∷ es) =
-    if is_drain e then turns_behind (drains ++ e ∷ []) es else ((drains ++ e ∷ []) ∷ turns_behind [] es)
+abbrev pub turns_after : List Event → List Event → List (List Event)
+turns_after drains [] = map (λ d. d ∷ []) drains ++ [] ∷ []
+turns_after drains (e ∷ es) =
+    if is_drain e then turns_after (drains ++ e ∷ []) es else ((drains ++ e ∷ []) ∷ turns_after [] es)
 
 abbrev pub turns_of : List Event → List (List Event)
-turns_of part = turns_behind [] part
+turns_of part = turns_after [] part
 
 -- turns one after another
 abbrev pub joined : List (List Event) → List Event

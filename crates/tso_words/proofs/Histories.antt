@@ -102,12 +102,12 @@ together-push (v ∷ vs) w t =
 pub before : ℕ → List (List Part) → ℕ → List (List Step)
 before t vs i = beside t (together (take i vs))
 
-pub behind : ℕ → List (List Part) → ℕ → List (List Step)
-behind t vs i = beside t (together (drop (suc i) vs))
+pub after : ℕ → List (List Part) → ℕ → List (List Step)
+after t vs i = beside t (together (drop (suc i) vs))
 
 pub together-set : (vs : List (List Part)) (i : ℕ) (v w : List Part) (t : ℕ) → get_elem? vs i ≡ some v
-    → beside t (together (set vs i w)) ≡ before t vs i ++ (beside t w ++ behind t vs i)
-unfolding before behind
+    → beside t (together (set vs i w)) ≡ before t vs i ++ (beside t w ++ after t vs i)
+unfolding before after
 together-set [] i v w t at = absurd (some-ne-none v (sym at))
 together-set (x ∷ vs) zero v w t at = beside-append t w (together vs)
 together-set (x ∷ vs) (suc i) v w t at =

@@ -10,7 +10,7 @@ use Rattle.tso_words.specs.declared.step.TracedStep.{TracedStep}
 use Rattle.tso_words.specs.declared.step.Part.{Part}
 use Rattle.tso_words.specs.History.{thread_count, History, zeros, memory_after_step, Finds, history_part, ArePartsOfOne, eight, list_at}
 use Rattle.tso_words.specs.Views.{beside, together, grown, only, others, one_part, no_steps, HoldsOneHistory, Stands, AllHome, list_of, first_steps}
-use Rattle.tso_words.proofs.Histories.{IsFlat-push, history_part-push, beside-append, together-push, together-set, before, behind}
+use Rattle.tso_words.proofs.Histories.{IsFlat-push, history_part-push, beside-append, together-push, together-set, before, after}
 
 -- a list of one element, with parts before and after it
 pub lone : {X : Type 0} (xs ys : List X) (x y : X) → xs ++ (x ∷ ys) ≡ y ∷ [] → (xs ≡ []) × (x ≡ y) × (ys ≡ [])
@@ -48,7 +48,7 @@ both_empty (x ∷ xs) ys e = absurd (cc)
 
 -- all views around one of them
 around : (views : List (List Part)) (id : ℕ) (v : List Part) (k : ℕ) → get_elem? views id ≡ some v
-    → beside k (together views) ≡ before k views id ++ (beside k v ++ behind k views id)
+    → beside k (together views) ≡ before k views id ++ (beside k v ++ after k views id)
 around views id v k at =
     ap (λ vs. beside k (together vs)) (sym (set_again views id v at)) ∙ together-set views id v v k at
 
@@ -57,18 +57,18 @@ in_view : (words : List ℕ) (views : List (List Part)) (id : ℕ) (v : List Par
     → HoldsOneHistory words views → get_elem? views id ≡ some v → beside t v ≡ l ∷ [] → t < thread_count
 in_view words views id v t l kept at mine =
     dite (dec_le 8 t)
-    (λ high. absurd (not_empty (before t views id) (behind t views id) l
-    (ap (λ x. before t views id ++ (x ++ behind t views id)) (sym mine) ∙ sym (around views id v t at)
+    (λ high. absurd (not_empty (before t views id) (after t views id) l
+    (ap (λ x. before t views id ++ (x ++ after t views id)) (sym mine) ∙ sym (around views id v t at)
     ∙ kept.3 t high)))
     (λ low. lt_of_not-le low)
 
 -- the list in a view is the part of the history, and the number stands in no other view
 in_history : (words : List ℕ) (views : List (List Part)) (id : ℕ) (v : List Part) (t : ℕ) (l : List Step)
     (kept : HoldsOneHistory words views) → get_elem? views id ≡ some v → beside t v ≡ l ∷ [] → t < thread_count
-    → (before t views id ≡ []) × (l ≡ history_part t kept.0) × (behind t views id ≡ [])
+    → (before t views id ≡ []) × (l ≡ history_part t kept.0) × (after t views id ≡ [])
 in_history words views id v t l kept at mine low =
-    lone (before t views id) (behind t views id) l (history_part t kept.0)
-    (ap (λ x. before t views id ++ (x ++ behind t views id)) (sym mine) ∙ sym (around views id v t at) ∙ kept.2 t low)
+    lone (before t views id) (after t views id) l (history_part t kept.0)
+    (ap (λ x. before t views id ++ (x ++ after t views id)) (sym mine) ∙ sym (around views id v t at) ∙ kept.2 t low)
 
 -- a load, a store and a swap: the history and one list have one step more
 pub grows : (words : List ℕ) (views : List (List Part)) (id : ℕ) (v : List Part) (t : ℕ) (l : List Step) (s : Step)
@@ -89,14 +89,14 @@ grows words views id v t l s kept at mine finds =
     else_same : (k : ℕ) → k ≢ t → beside k (together (set views id (grown t s v))) ≡ beside k (together views)
     else_same k apart =
         together-set views id v (grown t s v) k at
-        ∙ ap (λ x. before k views id ++ (x ++ behind k views id)) (beside-grown_else t s v k apart)
+        ∙ ap (λ x. before k views id ++ (x ++ after k views id)) (beside-grown_else t s v k apart)
         ∙ sym (around views id v k at)
 
     here : beside t (together (set views id (grown t s v))) ≡ history_part t (h ++ e ∷ []) ∷ []
     here =
         let lone_here = in_history words views id v t l kept at mine low in
         together-set views id v (grown t s v) t at
-        ∙ ap (λ x. x ++ (beside t (grown t s v) ++ behind t views id)) lone_here.0
+        ∙ ap (λ x. x ++ (beside t (grown t s v) ++ after t views id)) lone_here.0
         ∙ ap (λ x. beside t (grown t s v) ++ x) lone_here.2
         ∙ append-nil (beside t (grown t s v))
         ∙ beside-grown_same t s v
@@ -175,7 +175,7 @@ splits words views id v t l kept at mine =
         ∙ ap (λ x. beside k (together (set views id (others t v))) ++ x) (beside-one_else t l k apart)
         ∙ append-nil (beside k (together (set views id (others t v))))
         ∙ together-set views id v (others t v) k at
-        ∙ ap (λ x. before k views id ++ (x ++ behind k views id)) (beside-others_else t v k apart)
+        ∙ ap (λ x. before k views id ++ (x ++ after k views id)) (beside-others_else t v k apart)
         ∙ sym (around views id v k at)
 
     here : beside t (together (set views id (others t v) ++ one_part t l ∷ [])) ≡ beside t (together views)
@@ -184,7 +184,7 @@ splits words views id v t l kept at mine =
         together-push (set views id (others t v)) (one_part t l) t
         ∙ ap (λ x. beside t (together (set views id (others t v))) ++ x) (beside-one_same t l)
         ∙ ap (λ x. x ++ l ∷ []) (together-set views id v (others t v) t at)
-        ∙ ap (λ x. (x ++ (beside t (others t v) ++ behind t views id)) ++ l ∷ []) lone_here.0
+        ∙ ap (λ x. (x ++ (beside t (others t v) ++ after t views id)) ++ l ∷ []) lone_here.0
         ∙ ap (λ x. (beside t (others t v) ++ x) ++ l ∷ []) lone_here.2
         ∙ ap (λ x. (x ++ []) ++ l ∷ []) (beside-others_same t v)
         ∙ ap (λ x. x ∷ []) lone_here.1
@@ -240,27 +240,27 @@ joins words views id v other w kept at apart there =
     mine = set_else views other id [] (λ e. apart (sym e)) ∙ at
 
     now : (k : ℕ) → beside k (together (set (set views id (v ++ w)) other [])) ≡ before k (set views other []) id
-        ++ ((beside k v ++ beside k w) ++ behind k (set views other []) id)
+        ++ ((beside k v ++ beside k w) ++ after k (set views other []) id)
     now k =
         ap (λ vs. beside k (together vs)) (set_apart views id other (v ++ w) [] (λ e. apart (sym e)))
         ∙ together-set (set views other []) id v (v ++ w) k mine
-        ∙ ap (λ x. before k (set views other []) id ++ (x ++ behind k (set views other []) id)) (beside-append k v w)
+        ∙ ap (λ x. before k (set views other []) id ++ (x ++ after k (set views other []) id)) (beside-append k v w)
 
-    emptied : (k : ℕ) → before k (set views other []) id ++ (beside k v ++ behind k (set views other []) id)
-        ≡ before k views other ++ behind k views other
+    emptied : (k : ℕ) → before k (set views other []) id ++ (beside k v ++ after k (set views other []) id)
+        ≡ before k views other ++ after k views other
     emptied k = sym (around (set views other []) id v k mine) ∙ together-set views other w [] k theirs
 
     met : (k : ℕ) (x : List Step) → beside k (together views) ≡ x ∷ []
         → beside k (together (set (set views id (v ++ w)) other [])) ≡ x ∷ []
     met k x is =
-        now k ∙ joined (before k (set views other []) id) (beside k v) (behind k (set views other []) id)
-        (before k views other) (behind k views other) (beside k w) x (sym (around views other w k theirs) ∙ is)
+        now k ∙ joined (before k (set views other []) id) (beside k v) (after k (set views other []) id)
+        (before k views other) (after k views other) (beside k w) x (sym (around views other w k theirs) ∙ is)
         (emptied k)
 
     unmet : (k : ℕ) → beside k (together views) ≡ [] → beside k (together (set (set views id (v ++ w)) other [])) ≡ []
     unmet k is =
-        now k ∙ joined_none (before k (set views other []) id) (beside k v) (behind k (set views other []) id)
-        (before k views other) (behind k views other) (beside k w) (sym (around views other w k theirs) ∙ is)
+        now k ∙ joined_none (before k (set views other []) id) (beside k v) (after k (set views other []) id)
+        (before k views other) (after k views other) (beside k w) (sym (around views other w k theirs) ∙ is)
         (emptied k)
 
 -- the making of a table

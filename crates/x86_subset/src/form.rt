@@ -293,9 +293,9 @@ pub fn fit<'a>(
     let mut rest = tokens;
     for slot in slots {
         match slot.fill_first(bytes, rest, found) {
-            Some((more, behind)) => {
+            Some((more, after)) => {
                 found = more;
-                rest = behind;
+                rest = after;
             }
             None => {
                 if !slot.may_miss() {

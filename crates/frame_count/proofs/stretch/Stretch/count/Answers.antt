@@ -2,7 +2,7 @@ use Rattle.std.proofs.Common.{◌+◌, ◌-◌, ◌&&◌, nat_lt, sym, ap, ◌�
 use Rattle.std.proofs.lemmas.Bool.{cases_lt}
 use Rattle.frame_count.specs.Row.{is_within}
 use Rattle.frame_count.proofs.Counts.{count_all, count_around, count_outside}
-use Rattle.frame_count.proofs.Reaches.{before, behind, none_between}
+use Rattle.frame_count.proofs.Reaches.{before, after, none_between}
 use Rattle.frame_count.proofs.stretch.Stretch.count.Goals as goal
 
 pub returns-then-first-end : goal.returns-then-first-end
@@ -18,7 +18,7 @@ returns-then-first-end c =
     ∙ lt-ltb (first + i) s.to (omega arith)))
     ∙ count_around (is_within s) c.args.from first end c.args.to (omega arith) (omega arith) (omega arith)
     (λ m le lt. before s m (omega arith))
-    (λ m le lt. behind s m (omega arith))
+    (λ m le lt. after s m (omega arith))
 
 pub returns-else-first-end : goal.returns-else-first-end
 returns-else-first-end c =
