@@ -6,3 +6,4 @@ pub mod Rising
 pub mod Runs
 pub mod Sources
 pub mod Slots
+pub mod Worked
