@@ -1,5 +1,5 @@
 -- The definitions at worked runs and numbers. The expected values come from the project's worked rows.
-use Rattle.std.proofs.Common.{◌≡◌, ℕ, zero, suc, ◌<◌, true, false, None, Some, List, [], ◌∷◌, arith, length, lit<, map, ne_eqb, refl, slice_index}
+use Rattle.std.proofs.Common.{◌≡◌, ℕ, zero, suc, true, false, None, Some, List, [], ◌∷◌, length, map, refl, slice_index}
 use Rattle.std.proofs.lemmas.List.Elements.{All-from_recursion}
 use Rattle.std.specs.Prelude.{Err, Ok}
 use Rattle.x86_subset.specs.Conjunctions.{conjunctions_of}
@@ -13,12 +13,11 @@ use Rattle.x86_subset.specs.declared.instr.Instr.{Instr}
 use Rattle.x86_subset.specs.declared.instr.Instr.TheVariants as instr
 use Rattle.x86_subset.specs.declared.test.Atom.{Atom}
 use Rattle.x86_subset.specs.declared.test.Quantifier.TheVariants.{Exists}
-use Rattle.tso_machine.specs.Event.{Event, Kind, Push, Drain, Read}
+use Rattle.tso_machine.specs.Event.{Event, Push, Drain, Read}
 use Rattle.tso_machine.specs.Frame.{frame_number, frame_of}
 use Rattle.tso_machine.specs.Log.{log_of}
-use Rattle.tso_machine.specs.Machine.{after_all, initial}
-use Rattle.tso_machine.specs.Part.{Performs, part_of}
 use Rattle.tso_machine.specs.Run.{IsRunOf}
+use Rattle.tso_machine.proofs.Worked.{at, drained_twice, relaxed, run_by}
 use Rattle.seq_conv.specs.Sequence.{value_of}
 use Rattle.profile_check.specs.Kinds.{AreKinds, kind_of}
 use Rattle.profile_check.specs.declared.kind.AtomKind.{AtomKind}
@@ -168,25 +167,12 @@ frame = (refl, refl)
 
 -- Runs of store buffering.
 
-abbrev at : ℕ → ℕ → ℕ → Kind → Event
-at t n p k = record { thread = t; iteration = n; place = p; kind = k }
-
--- one iteration, where no buffer drains before the end
-abbrev relaxed : List Event
-relaxed = at 0 0 0 Push ∷ at 1 0 0 Push ∷ at 0 0 1 (Read 0) ∷ at 1 0 1 (Read 0) ∷ at 0 0 0 Drain ∷ at 1 0 0 Drain ∷ []
-
 -- two iterations, in the same way
 abbrev relaxed_twice : List Event
 relaxed_twice =
     at 0 0 0 Push ∷ at 1 0 0 Push ∷ at 0 0 1 (Read 0) ∷ at 1 0 1 (Read 0) ∷ at 0 1 0 Push ∷ at 1 1 0 Push
     ∷ at 0 1 1 (Read 0) ∷ at 1 1 1 (Read 0)
     ∷ at 0 0 0 Drain ∷ at 1 0 0 Drain ∷ at 0 1 0 Drain ∷ at 1 1 0 Drain ∷ []
-
--- two iterations, where each buffer drains before the next action
-abbrev drained_twice : List Event
-drained_twice =
-    at 0 0 0 Push ∷ at 1 0 0 Push ∷ at 0 0 0 Drain ∷ at 0 0 1 (Read 0) ∷ at 1 0 0 Drain ∷ at 1 0 1 (Read 1)
-    ∷ at 0 1 0 Push ∷ at 1 1 0 Push ∷ at 0 1 0 Drain ∷ at 0 1 1 (Read 1) ∷ at 1 1 0 Drain ∷ at 1 1 1 (Read 2) ∷ []
 
 seen : (hits_of sb sb_kinds 1 relaxed ≡ (0 ∷ 0 ∷ []) ∷ []) × (picked_hits sb 1 relaxed sb_kinds ≡ (0 ∷ 0 ∷ []) ∷ [])
 seen = (refl, refl)
@@ -292,33 +278,8 @@ sb_picks = refl
 
 -- The laws' premises are met.
 
-relaxed_drained : (t : ℕ) → (after_all sb initial relaxed).buffer t ≡ []
-relaxed_drained zero = refl
-relaxed_drained (suc zero) = refl
-relaxed_drained (suc (suc t)) =
-    rw (ne_eqb 0 (suc (suc t)) (λ e. omega arith), ne_eqb 1 (suc (suc t)) (λ e. omega arith)) refl
-
-relaxed_performs : (t : ℕ) → t < 2 → Performs sb 1 t (part_of t relaxed)
-relaxed_performs zero l = (
-  (record { thread = refl; iteration = refl; place = refl; kind = tt }),
-  (record { thread = refl; iteration = refl; place = refl; kind = tt }, tt),
-)
-relaxed_performs (suc zero) l = (
-  (record { thread = refl; iteration = refl; place = refl; kind = tt }),
-  (record { thread = refl; iteration = refl; place = refl; kind = tt }, tt),
-)
-relaxed_performs (suc (suc t)) l = absurd (omega arith)
-
 relaxed_runs : IsRunOf sb 1 relaxed
-relaxed_runs = record {
-  legal = record { steps = (tt, (tt, (refl, (refl, (refl, (refl, tt)))))); drained = relaxed_drained };
-  performs = relaxed_performs;
-  threads =
-      All-from_recursion (λ (e : Event). e.thread < 2) relaxed (
-        lit< tt,
-        (lit< tt, (lit< tt, (lit< tt, (lit< tt, (lit< tt, tt))))),
-      );
-}
+relaxed_runs = run_by sb 1 relaxed assumption
 
 sb_holds_reads : HoldsReads sb
 sb_holds_reads =
