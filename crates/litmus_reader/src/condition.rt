@@ -11,11 +11,7 @@ use std::alloc::Global;
 use x86_subset::{Atom, Found, Quantifier, Slot, Token, TokenKind};
 
 /// The tokens after the next closing bracket.
-fn after_close<'a>(
-    bytes: &[u8],
-    tokens: &'a [Token],
-    last: u32,
-) -> Result<&'a [Token], LitmusError>
+fn after_close<'a>(bytes: &[u8], tokens: &'a [Token], last: u32) -> Result<&'a [Token], LitmusError>
     ensures is { Answers (λ ts. lexemes bytes.now ts.now) result (after_close last (lexemes bytes.now tokens.now)) }
     ensures few { IfOk result (λ ts. length ts.now ≤ length tokens.now) }
 {
