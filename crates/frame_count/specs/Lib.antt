@@ -2,5 +2,6 @@ pub mod Count
 pub mod Counted
 pub mod Known
 pub mod Row
+pub mod Rows
 pub mod RunLogs
 pub mod TwoLogs

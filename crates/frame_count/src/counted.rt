@@ -10,7 +10,7 @@ ghost use Rattle.frame_count.specs.declared.stretch.Stretch.{Stretch};
 
 use crate::known::Known;
 use crate::reach::{hull, reaches};
-use crate::row::count_row;
+use crate::row::Row;
 use crate::stretch::Stretch;
 use load_log::Logs;
 use outcome_conv::Conds;
@@ -77,7 +77,13 @@ impl Counted {
         if self.from == from && self.to == to && count_alike(&self.stretches, some) {
             return self.hits;
         }
-        let hits = count_row(conds, logs, known, frame, &stretches, from, to);
+        let row = Row {
+            conds,
+            logs,
+            frame,
+            stretches: &stretches,
+        };
+        let hits = row.count(known, from, to);
         if !hull(some).is_empty() {
             *self = Counted {
                 from,

@@ -1,9 +1,9 @@
 //! How far the conditions of a row reach: what does not depend on the last thread's iteration is tested here, once a
 //! row.
 ghost use Rattle.std.specs.Prelude.{◌≡◌, ℕ, ◌-◌, ◌<◌, ◌≤◌, ◌==◌, ◌&&◌, ◌||◌, All, false, length, not, slice_index_or, true};
-ghost use Rattle.x86_subset.specs.Conjunctions.{conjunction_of};
 ghost use Rattle.frame_count.specs.Count.{IsFrameOf, IsGood, IsOfLogs};
 ghost use Rattle.frame_count.specs.Row.{Leaves, holds_along, is_within, left_along};
+ghost use Rattle.frame_count.specs.Rows.{LeaveEach};
 ghost use Rattle.frame_count.specs.declared.stretch.Stretch.{Stretch};
 
 use crate::at_frame::logged;
@@ -91,9 +91,7 @@ pub(crate) fn reaches(
     requires frame { (all : ℕ) × (n ≤ all) × IsFrameOf logs.now.logs all frame.now }
     requires names { All (IsOfLogs logs.now.logs) conds.now.conds }
     ensures each { length conds.now.ends ≤ length result }
-    ensures leave { (c : ℕ) (d : Stretch) → c < length conds.now.ends
-        → Leaves n logs.now.logs frame.now (conjunction_of conds.now.ends conds.now.conds c)
-        (slice_index_or result c d) }
+    ensures leave { LeaveEach conds.now logs.now.logs n result frame.now }
 {
     let mut stretches = [Stretch::all_or_none(false, n); MOST_CONJUNCTIONS];
     for c in 0..conds.conjunctions() {

@@ -1,13 +1,13 @@
 //! The count of a row: all iterations of the last thread, with those of the other threads fixed.
-ghost use Rattle.std.specs.Prelude.{◌≡◌, ℕ, ◌+◌, ◌-◌, ◌<◌, ◌≤◌, ◌==◌, length, count_by, slice_index_or, true, false, All, List};
+ghost use Rattle.std.specs.Prelude.{◌≡◌, ℕ, ◌+◌, ◌-◌, ◌<◌, ◌≤◌, ◌==◌, length, count_by, true, false, All, List};
 ghost use Rattle.std.specs.List.{list_all, range_with_len};
-ghost use Rattle.x86_subset.specs.Conjunctions.{conjunction_of};
 ghost use Rattle.load_log.specs.Values.{Values, value_at};
 ghost use Rattle.outcome_conv.specs.Conds.{conds_hold};
-ghost use Rattle.frame_count.specs.Count.{IsFrameOf, IsGood, IsOfLogs, frame_holds, with_last};
+ghost use Rattle.frame_count.specs.Count.{IsFrameOf, IsGood, IsOfLogs, with_last};
 ghost use Rattle.frame_count.specs.Known.{IsKnown, Tells};
 ghost use Rattle.frame_count.specs.declared.stretch.Stretch.{Stretch};
 ghost use Rattle.frame_count.specs.Row.{Leaves, holds_along, left_along, mask_along};
+ghost use Rattle.frame_count.specs.Rows.{IsRow, row_holds};
 
 use crate::at_frame::holds_at;
 use crate::known::Known;
@@ -99,157 +99,112 @@ fn all_word(conds: &[Cond], logs: &Logs, frame: &Frame, stretch: Stretch, at: us
     }
 }
 
-/// At which of sixty-four iterations the conditions of some conjunction hold.
-fn some_word(conds: &Conds, logs: &Logs, frame: &Frame, stretches: &[Stretch], at: usize) -> u64
-    requires frame { (n : ℕ) × (at + 64 ≤ n) × IsFrameOf logs.now.logs n frame.now }
-    requires names { All (IsOfLogs logs.now.logs) conds.now.conds }
-    requires each { length conds.now.ends ≤ length stretches.now }
-    requires stretches { (c : ℕ) (d : Stretch) → c < length conds.now.ends
-        → Leaves (at + 64) logs.now.logs frame.now (conjunction_of conds.now.ends conds.now.conds c)
-        (slice_index_or stretches.now c d) }
-    ensures { result ≡ mask_along (λ m. frame_holds conds.now logs.now.logs (with_last frame.now m)) at 64 }
-{
-    let mut word = 0u64;
-    for c in 0..conds.conjunctions() {
-        word |= all_word(conds.group(c), logs, frame, stretches[c], at);
-    }
-    word
+/// A row of frames: the conditions, the logs, the iterations of the threads other than the last, and the stretch of each
+/// conjunction.
+#[derive(Clone, Copy)]
+pub(crate) struct Row<'a> {
+    pub conds: &'a Conds,
+    pub logs: &'a Logs,
+    pub frame: &'a Frame,
+    pub stretches: &'a [Stretch],
 }
 
-/// At how many iterations from `from` up to and without `to` the conditions of some conjunction hold, one by one.
-fn count_singly(conds: &Conds, logs: &Logs, frame: &Frame, from: usize, to: usize) -> u64
-    requires frame { (n : ℕ) × (from ≤ to) × (to ≤ n) × IsFrameOf logs.now.logs n frame.now }
-    requires names { All (IsOfLogs logs.now.logs) conds.now.conds }
-    ensures { result ≡ count_by (λ m. frame_holds conds.now logs.now.logs (with_last frame.now m))
-        (range_with_len from (to - from)) }
-{
-    let mut total = 0u64;
-    let mut at = from;
-    while at < to {
-        total += holds_at(conds, logs, frame, at as u32) as u64;
-        at += 1;
+impl<'a> Row<'a> {
+    /// At which of sixty-four iterations the conditions of some conjunction hold.
+    fn some_word(&self, at: usize) -> u64
+        requires { IsRow self.now (at + 64) }
+        ensures { result ≡ mask_along (row_holds self.now) at 64 }
+    {
+        let mut word = 0u64;
+        for c in 0..self.conds.conjunctions() {
+            let (conds, stretch) = (self.conds.group(c), self.stretches[c]);
+            word |= all_word(conds, self.logs, self.frame, stretch, at);
+        }
+        word
     }
-    total
-}
 
-/// The same by words of sixty-four, and the rest one by one.
-fn count_between(
-    conds: &Conds,
-    logs: &Logs,
-    frame: &Frame,
-    stretches: &[Stretch],
-    from: usize,
-    to: usize,
-) -> u64
-    requires frame { (n : ℕ) × (from ≤ to) × (to ≤ n) × IsFrameOf logs.now.logs n frame.now }
-    requires names { All (IsOfLogs logs.now.logs) conds.now.conds }
-    requires each { length conds.now.ends ≤ length stretches.now }
-    requires stretches { (c : ℕ) (d : Stretch) → c < length conds.now.ends
-        → Leaves to logs.now.logs frame.now (conjunction_of conds.now.ends conds.now.conds c)
-        (slice_index_or stretches.now c d) }
-    ensures { result ≡ count_by (λ m. frame_holds conds.now logs.now.logs (with_last frame.now m))
-        (range_with_len from (to - from)) }
-{
-    let mut total = 0u64;
-    let mut at = from;
-    while to - at >= 64 {
-        total += some_word(conds, logs, frame, stretches, at).count_ones() as u64;
-        at += 64;
+    /// At how many iterations from `from` up to and without `to` the conditions of some conjunction hold, one by one.
+    fn count_singly(&self, from: usize, to: usize) -> u64
+        requires row { (from ≤ to) × IsRow self.now to }
+        ensures { result ≡ count_by (row_holds self.now) (range_with_len from (to - from)) }
+    {
+        let mut total = 0u64;
+        let mut at = from;
+        while at < to {
+            total += holds_at(self.conds, self.logs, self.frame, at as u32) as u64;
+            at += 1;
+        }
+        total
     }
-    total + count_singly(conds, logs, frame, at, to)
-}
 
-/// The same of a row with these stretches: where nothing is left to test of the one conjunction, those of its stretch,
-/// and else those between the first and the last that stand in one.
-pub(crate) fn count_within(
-    conds: &Conds,
-    logs: &Logs,
-    frame: &Frame,
-    stretches: &[Stretch],
-    from: usize,
-    to: usize,
-) -> u64
-    requires frame { (n : ℕ) × (from ≤ to) × (to ≤ n) × IsFrameOf logs.now.logs n frame.now }
-    requires names { All (IsOfLogs logs.now.logs) conds.now.conds }
-    requires each { length conds.now.ends ≤ length stretches.now }
-    requires stretches { (c : ℕ) (d : Stretch) → c < length conds.now.ends
-        → Leaves to logs.now.logs frame.now (conjunction_of conds.now.ends conds.now.conds c)
-        (slice_index_or stretches.now c d) }
-    ensures { result ≡ count_by (λ m. frame_holds conds.now logs.now.logs (with_last frame.now m))
-        (range_with_len from (to - from)) }
-{
-    if conds.conjunctions() == 1 && stretches[0].is_settled() {
-        return stretches[0].count(from, to);
+    /// The same by words of sixty-four, and the rest one by one.
+    fn count_between(&self, from: usize, to: usize) -> u64
+        requires row { (from ≤ to) × IsRow self.now to }
+        ensures { result ≡ count_by (row_holds self.now) (range_with_len from (to - from)) }
+    {
+        let mut total = 0u64;
+        let mut at = from;
+        while to - at >= 64 {
+            total += self.some_word(at).count_ones() as u64;
+            at += 64;
+        }
+        total + self.count_singly(at, to)
     }
-    let hull = hull(&stretches[..conds.conjunctions()]);
-    let first = hull.from.max(from);
-    let end = hull.to.min(to);
-    if first < end {
-        count_between(conds, logs, frame, stretches, first, end)
-    } else {
-        0
-    }
-}
 
-/// The same where words of one condition's column are known: whole words of its stretch by what is known.
-fn count_known(
-    conds: &Conds,
-    logs: &Logs,
-    known: &Known,
-    frame: &Frame,
-    stretches: &[Stretch],
-    from: usize,
-    to: usize,
-) -> u64
-    requires frame { (n : ℕ) × (from ≤ to) × (to ≤ n) × IsFrameOf logs.now.logs n frame.now }
-    requires names { All (IsOfLogs logs.now.logs) conds.now.conds }
-    requires each { length conds.now.ends ≤ length stretches.now }
-    requires stretches { (c : ℕ) (d : Stretch) → c < length conds.now.ends
-        → Leaves to logs.now.logs frame.now (conjunction_of conds.now.ends conds.now.conds c)
-        (slice_index_or stretches.now c d) }
-    requires known { IsKnown conds.now logs.now.logs known.now }
-    ensures { result ≡ count_by (λ m. frame_holds conds.now logs.now.logs (with_last frame.now m))
-        (range_with_len from (to - from)) }
-{
-    let stretch = stretches[0];
-    let first = stretch.from.max(from).div_ceil(64);
-    let end = (stretch.to.min(to) / 64).min(known.words);
-    if first >= end || !stretch.row {
-        return count_within(conds, logs, frame, stretches, from, to);
+    /// The same: where nothing is left to test of the one conjunction, those of its stretch, and else those between the
+    /// first and the last that stand in a stretch.
+    fn count_within(&self, from: usize, to: usize) -> u64
+        requires row { (from ≤ to) × IsRow self.now to }
+        ensures { result ≡ count_by (row_holds self.now) (range_with_len from (to - from)) }
+    {
+        if self.conds.conjunctions() == 1 && self.stretches[0].is_settled() {
+            return self.stretches[0].count(from, to);
+        }
+        let hull = hull(&self.stretches[..self.conds.conjunctions()]);
+        let first = hull.from.max(from);
+        let end = hull.to.min(to);
+        if first < end {
+            self.count_between(first, end)
+        } else {
+            0
+        }
     }
-    let cond = &known.cond;
-    let values = logs.at(cond.reader as usize).column(cond.column as usize);
-    let bound = bound(cond.kind, frame.at(cond.writer as usize));
-    let middle = known.count(values, bound, first, end);
-    let front = count_within(conds, logs, frame, stretches, from, 64 * first);
-    let back = count_within(conds, logs, frame, stretches, 64 * end, to);
-    front + middle + back
-}
 
-/// The same of a row with these stretches, by what is known if there is something.
-pub(crate) fn count_row(
-    conds: &Conds,
-    logs: &Logs,
-    known: &Known,
-    frame: &Frame,
-    stretches: &[Stretch],
-    from: usize,
-    to: usize,
-) -> u64
-    requires frame { (n : ℕ) × (from ≤ to) × (to ≤ n) × IsFrameOf logs.now.logs n frame.now }
-    requires names { All (IsOfLogs logs.now.logs) conds.now.conds }
-    requires each { length conds.now.ends ≤ length stretches.now }
-    requires stretches { (c : ℕ) (d : Stretch) → c < length conds.now.ends
-        → Leaves to logs.now.logs frame.now (conjunction_of conds.now.ends conds.now.conds c)
-        (slice_index_or stretches.now c d) }
-    requires known { Tells conds.now logs.now.logs known.now }
-    ensures { result ≡ count_by (λ m. frame_holds conds.now logs.now.logs (with_last frame.now m))
-        (range_with_len from (to - from)) }
-{
-    if known.words == 0 {
-        count_within(conds, logs, frame, stretches, from, to)
-    } else {
-        count_known(conds, logs, known, frame, stretches, from, to)
+    /// The same where words of one condition's column are known: whole words of its stretch by what is known.
+    fn count_known(&self, known: &Known, from: usize, to: usize) -> u64
+        requires row { (from ≤ to) × IsRow self.now to }
+        requires known { IsKnown self.now.conds.now self.now.logs.now.logs known.now }
+        ensures { result ≡ count_by (row_holds self.now) (range_with_len from (to - from)) }
+    {
+        let stretch = self.stretches[0];
+        let first = stretch.from.max(from).div_ceil(64);
+        let end = (stretch.to.min(to) / 64).min(known.words);
+        if first >= end || !stretch.row {
+            return self.count_within(from, to);
+        }
+        let cond = &known.cond;
+        let values = self
+            .logs
+            .at(cond.reader as usize)
+            .column(cond.column as usize);
+        let bound = bound(cond.kind, self.frame.at(cond.writer as usize));
+        let middle = known.count(values, bound, first, end);
+        let front = self.count_within(from, 64 * first);
+        let back = self.count_within(64 * end, to);
+        front + middle + back
+    }
+
+    /// The same, by what is known if there is something.
+    pub(crate) fn count(&self, known: &Known, from: usize, to: usize) -> u64
+        requires row { (from ≤ to) × IsRow self.now to }
+        requires known { Tells self.now.conds.now self.now.logs.now.logs known.now }
+        ensures { result ≡ count_by (row_holds self.now) (range_with_len from (to - from)) }
+    {
+        if known.words == 0 {
+            self.count_within(from, to)
+        } else {
+            self.count_known(known, from, to)
+        }
     }
 }
 
@@ -261,6 +216,12 @@ pub fn row_count(conds: &Conds, logs: &Logs, frame: &Frame, from: u32, to: u32) 
     ensures { result ≡ count_by (λ m. conds_hold (value_at logs.now.logs) conds.now.ends conds.now.conds
         (with_last frame.now m)) (range_with_len from (to - from)) }
 {
-    let stretches = reaches(conds, logs, frame, to as usize);
-    count_within(conds, logs, frame, &stretches, from as usize, to as usize)
+    let stretches = &reaches(conds, logs, frame, to as usize);
+    let row = Row {
+        conds,
+        logs,
+        frame,
+        stretches,
+    };
+    row.count_within(from as usize, to as usize)
 }

@@ -49,6 +49,6 @@ returns-then-not-is_empty-clause-counts c =
       from = c.args.from;
       to = c.args.to;
       stretches = c.reaches-stretches.result;
-      hits = c.count_row-hits.result;
+      hits = c.count-hits.result;
     })
-    c.requires.frame.1 c.requires.frame.3 c.reaches-stretches.ensures.leave c.count_row-hits.ensures
+    c.requires.frame.1 c.requires.frame.3 c.reaches-stretches.ensures.leave c.count-hits.ensures

@@ -1,0 +1,26 @@
+-- What the count of a row needs: its stretches leave it to the conditions of each conjunction (this project's own).
+use Rattle.std.specs.Prelude.{ℕ, ◌<◌, ◌≤◌, All, Bool, List, length, slice_index_or}
+use Rattle.x86_subset.specs.Conjunctions.{conjunction_of}
+use Rattle.load_log.specs.Values.{Values}
+use Rattle.outcome_conv.specs.Conditions.{Conditions}
+use Rattle.frame_count.specs.Count.{IsFrameOf, IsOfLogs, frame_holds, with_last}
+use Rattle.frame_count.specs.Row.{Leaves}
+use Rattle.frame_count.specs.declared.row.Row.{Row}
+use Rattle.frame_count.specs.declared.stretch.Stretch.{Stretch}
+
+-- the stretches leave the row of a frame to the conditions of each conjunction below n
+abbrev pub LeaveEach : Conditions → List Values → ℕ → List Stretch → List ℕ → Type 0
+LeaveEach c logs n stretches frame =
+    (j : ℕ) (d : Stretch) → j < length c.ends → Leaves n logs frame (conjunction_of c.ends c.conds j)
+    (slice_index_or stretches j d)
+
+-- a row of a frame of the logs, up to and without this iteration of the last thread
+pub record IsRow (r : Row) (to : ℕ) : Type 0 where
+  pub frame : (n : ℕ) × (to ≤ n) × IsFrameOf r.logs.now.logs n r.frame.now
+  pub names : All (IsOfLogs r.logs.now.logs) r.conds.now.conds
+  pub each : length r.conds.now.ends ≤ length r.stretches.now
+  pub leaves : LeaveEach r.conds.now r.logs.now.logs to r.stretches.now r.frame.now
+
+-- whether the conditions of some conjunction hold where the last thread is in iteration m
+abbrev pub row_holds : Row → ℕ → Bool
+row_holds r m = frame_holds r.conds.now r.logs.now.logs (with_last r.frame.now m)
