@@ -1,15 +1,10 @@
-use Rattle.std.proofs.Common.{◌≡◌, ◌-◌, ◌≤◌, count_by}
-use Rattle.std.specs.List.{range_with_len}
+use Rattle.std.proofs.Common.{◌-◌, ◌≤◌}
 use Rattle.frame_count.specs.Rows.{row_holds}
+use Rattle.frame_count.proofs.Counts.{IsCountedTo}
 use Rattle.frame_count.proofs.row.Row.count_singly.Given as goal
 
 abbrev pub invariant-loop-at : goal.invariant-loop-at
-invariant-loop-at l = record {
-  low : l.from ≤ l.at;
-  high : l.at ≤ l.to;
-  total : l.total ≡ count_by (row_holds l.self)
-      (range_with_len l.from (l.at - l.from));
-}
+invariant-loop-at l = (l.at ≤ l.to) × IsCountedTo (row_holds l.self) l.from l.at l.total
 
 abbrev pub decreases-loop-at : goal.decreases-loop-at
 decreases-loop-at l = l.to - l.at
