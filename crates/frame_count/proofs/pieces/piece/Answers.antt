@@ -3,7 +3,7 @@ use Rattle.std.proofs.lemmas.Nat.{mod_below}
 use Rattle.std.specs.List.{range_with_len}
 use Rattle.tso_machine.specs.Frame.{frame_of}
 use Rattle.frame_count.specs.Count.{frame_holds, number_holds, with_last}
-use Rattle.frame_count.proofs.Counts.{count_bound, count_join, count_moved}
+use Rattle.frame_count.proofs.Counts.{count_moved, counted_fits, counted_more}
 use Rattle.frame_count.proofs.Cuts.{frame_is, row_frame}
 use Rattle.frame_count.proofs.pieces.piece.Goals as goal
 
@@ -25,34 +25,13 @@ next-total-requires c =
       );
       names = c.requires.names;
       known = c.requires.known;
-      counts = c.loop-at.invariant.counts;
+      counts = c.loop-at.invariant.1;
     }
 
-pub loop-at-init : goal.loop-at-init
-loop-at-init c = record {
-  low = omega arith;
-  high = omega arith;
-  counts = c.requires.first;
-  total =
-      let none : c.args.from - c.args.from ≡ 0 = omega arith in
-      sym (ap (λ k. count_by (number_holds c.args.conds.now c.args.logs.now.logs c.args.n)
-      (range_with_len c.args.from k)) none);
-}
-
-pub overflow_add-total : goal.overflow_add-total
-overflow_add-total c =
-    let p : ℕ → Bool = number_holds c.args.conds.now c.args.logs.now.logs c.args.n in
-    let q : ℕ → Bool = λ m. frame_holds c.args.conds.now c.args.logs.now.logs (with_last c.frame_of-frame.result m) in
-    let h = count_bound p c.args.from (c.loop-at.at - c.args.from) in
-    let first = c.loop-at.at % c.args.n in
-    let e = count_bound q first (first + c.min-row.result - first) in
-    let t = c.loop-at.invariant.total in
-    let k = c.next-total.ensures.hits in
-    let row = c.min-row.ensures in
-    record { fits = omega arith }
-
-pub loop-at-preserved : goal.loop-at-preserved
-loop-at-preserved c =
+-- the hits of this row, by the numbers of its frames
+row_hits : (c : goal.After-next-total) → c.next-total.result ≡ count_by (number_holds c.args.conds.now c.args.logs.now.logs c.args.n)
+    (range_with_len c.loop-at.at c.min-row.result)
+row_hits c =
     let n = c.args.n in
     let logs = c.args.logs.now.logs in
     let conds = c.args.conds.now in
@@ -67,13 +46,22 @@ loop-at-preserved c =
     ap (frame_holds conds logs) (ap (λ f. with_last f (first + i)) frame
     ∙ sym (row_frame n (length logs) at i (first + i) c.requires.threads.0 refl (omega arith))) in
     let long : first + row - first ≡ row = omega arith in
-    let e = c.next-total.ensures.hits ∙ ap (λ k. count_by q (range_with_len first k)) long
-    ∙ count_moved q (number_holds conds logs n) first at row same in
-    record {
-      low = omega arith;
-      high = omega arith;
-      counts = c.next-total.ensures.counts;
-      total =
-          count_join (number_holds conds logs n) c.args.from at row _ _ c.loop-at.invariant.low
-          c.loop-at.invariant.total e;
-    }
+    c.next-total.ensures.hits ∙ ap (λ k. count_by q (range_with_len first k)) long
+    ∙ count_moved q (number_holds conds logs n) first at row same
+
+pub overflow_add-total : goal.overflow_add-total
+overflow_add-total c =
+    let few = counted_fits (number_holds c.args.conds.now c.args.logs.now.logs c.args.n) c.args.from c.loop-at.at
+    c.min-row.result _ _ c.loop-at.invariant.2 (row_hits c) in
+    let row = c.min-row.ensures in
+    record { fits = omega arith }
+
+pub loop-at-preserved : goal.loop-at-preserved
+loop-at-preserved c =
+    let min = c.min-row.ensures in
+    let low = mod_below c.loop-at.at c.args.n c.requires.iterations.0 in (
+      omega arith,
+      c.next-total.ensures.counts,
+      counted_more (number_holds c.args.conds.now c.args.logs.now.logs c.args.n) c.args.from c.loop-at.at
+          c.min-row.result _ _ c.loop-at.invariant.2 (row_hits c),
+    )
