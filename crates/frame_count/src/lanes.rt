@@ -1,5 +1,5 @@
 //! Eight and sixty-four iterations of the last thread at once, along a column of its log.
-ghost use Rattle.std.specs.Prelude.{◌≡◌, ℕ, ◌+◌, ◌-◌, ◌*◌, ◌/◌, ◌<◌, ◌≤◌, ◌^◌, ◌%◌, ◌==◌, Bool, true, length, map, nat_eq, nat_le, nat_lt, slice_index};
+ghost use Rattle.std.specs.Prelude.{◌≡◌, ℕ, ◌+◌, ◌-◌, ◌*◌, ◌/◌, ◌<◌, ◌≤◌, ◌^◌, ◌%◌, ◌==◌, ◌&&◌, Bool, true, length, map, nat_eq, nat_le, nat_lt, slice_index};
 ghost use Rattle.std.specs.List.{range_with_len};
 ghost use Rattle.std.specs.Simd.Lanes.{Each1, mask_l, zip2};
 ghost use Rattle.outcome_conv.specs.Conditions.{IsKind};
@@ -260,6 +260,22 @@ fn residue_word(values: &[u64], k: u64, a: u64, at: usize) -> u64
     )
 }
 
+/// Those of a word of sixty-four values that have the residue `a` for `k` too.
+#[inline(always)]
+fn with_residue(word: u64, values: &[u64], k: u64, a: u64, at: usize) -> u64
+    requires some { (1 ≤ k) × (k ≤ 128) }
+    requires at { at + 64 ≤ MOST_ITERATIONS }
+    requires room { at + 64 ≤ length values.now }
+    ensures { (p : ℕ → Bool) → word ≡ mask_along p at 64
+        → result ≡ mask_along (λ m. p m && (slice_index values.now m % k == a % k)) at 64 }
+{
+    if word == 0 {
+        0
+    } else {
+        word & residue_word(values, k, a, at)
+    }
+}
+
 /// Which of sixty-four values have the residue that a condition of this kind asks.
 pub(crate) fn fitting_word(kind: CondKind, values: &[u64], at: usize) -> u64
     requires kind { IsKind kind }
@@ -283,12 +299,7 @@ pub(crate) fn values_word(kind: CondKind, values: &[u64], bound: u64, at: usize)
 {
     match kind {
         CondKind::AtLeast { k, a } => {
-            let at_least = at_least_word(values, bound, at);
-            if at_least == 0 {
-                0
-            } else {
-                at_least & residue_word(values, k, a, at)
-            }
+            with_residue(at_least_word(values, bound, at), values, k, a, at)
         }
         CondKind::Below { .. } => less_word(values, bound, at),
         CondKind::Exact { .. } => equal_word(values, bound, at),
@@ -304,12 +315,7 @@ pub(crate) fn own_word(kind: CondKind, values: &[u64], at: usize) -> u64
 {
     match kind {
         CondKind::AtLeast { k, a } => {
-            let at_least = own_at_least_word(values, k, a, at);
-            if at_least == 0 {
-                0
-            } else {
-                at_least & residue_word(values, k, a, at)
-            }
+            with_residue(own_at_least_word(values, k, a, at), values, k, a, at)
         }
         CondKind::Below { k } => own_less_word(values, k, 1, at),
         CondKind::Exact { k, a } => own_equal_word(values, k, a, at),

@@ -1,8 +1,8 @@
-use Rattle.std.proofs.Common.{◌≡◌, ℕ, ◌%◌, ◌<◌, ◌==◌, true, w64, slice_index, sym, ◌∙◌, arith, eq-eqb}
+use Rattle.std.proofs.Common.{◌≡◌, ℕ, ◌%◌, ◌<◌, ◌==◌, w64, slice_index, sym, ◌∙◌, arith, eq-eqb}
 use Rattle.std.proofs.lemmas.Nat.{mod_below, one_shl}
 use Rattle.std.proofs.lemmas.Nat.Bits.{bit_at-trailing_zeros}
 use lib.Count.{count_trailing_zeros}
-use Rattle.frame_count.proofs.Along.{along_same, along_true}
+use Rattle.frame_count.proofs.Along.{along_all}
 use Rattle.frame_count.proofs.lanes.residue_word.Goals as goal
 
 mod_one : (v k : ℕ) → k ≡ 1 → v % k ≡ 0
@@ -13,10 +13,8 @@ returns-then-k-eq1 c =
     let k = c.args.k in
     let v = slice_index c.args.values.now in
     let one = c.if-k-eq1.true in
-    let all = along_true c.args.at 64 in
-    let same = along_same (λ m. v m % k == c.args.a % k) (λ m. true) c.args.at 64
-    (λ m. eq-eqb (v m % k) (c.args.a % k) (mod_one (v m) k one ∙ sym (mod_one c.args.a k one))) in
-    omega arith
+    along_all (λ m. v m % k == c.args.a % k) c.args.at
+    (λ m. eq-eqb (v m % k) (c.args.a % k) (mod_one (v m) k one ∙ sym (mod_one c.args.a k one)))
 
 pub masked_word-requires-clause-power : goal.masked_word-requires-clause-power
 masked_word-requires-clause-power c =

@@ -1,24 +1,10 @@
-use Rattle.std.proofs.Common.{◌≡◌, ℕ, ◌%◌, ◌==◌, Bool, bit_and, nat_le, slice_index, sym, ap, ◌∙◌}
+use Rattle.std.proofs.Common.{ℕ, nat_le, slice_index, sym, ap, ◌∙◌}
 use Rattle.outcome_conv.specs.declared.cond.CondKind.{CondKind}
 use Rattle.frame_count.specs.Row.{kind_test, mask_along}
-use Rattle.frame_count.proofs.Along.{along_and, along_zero}
 use Rattle.frame_count.proofs.lanes.values_word.Goals as goal
 
-pub returns-then-at_least-eq0 : goal.returns-then-at_least-eq0
-returns-then-at_least-eq0 c =
+pub returns-in-AtLeast : goal.returns-in-AtLeast
+returns-in-AtLeast c =
     let v = slice_index c.args.values.now in
-    let least : ℕ → Bool = λ m. nat_le c.args.bound (v m) in
-    let residue : ℕ → Bool = λ m. v m % c.in-AtLeast.k == c.in-AtLeast.a % c.in-AtLeast.k in
-    let none : mask_along least c.args.at 64 ≡ 0 = sym c.at_least_word-at_least.ensures ∙ c.if-at_least-eq0.true in
-    sym (ap (λ (t : CondKind). mask_along (λ m. kind_test t (v m) c.args.bound) c.args.at 64) c.in-AtLeast.is
-    ∙ along_zero least residue c.args.at 64 none)
-
-pub returns-else-at_least-eq0 : goal.returns-else-at_least-eq0
-returns-else-at_least-eq0 c =
-    let v = slice_index c.args.values.now in
-    let least : ℕ → Bool = λ m. nat_le c.args.bound (v m) in
-    let residue : ℕ → Bool = λ m. v m % c.in-AtLeast.k == c.in-AtLeast.a % c.in-AtLeast.k in
-    ap (λ w. bit_and w c.residue_word.result) c.at_least_word-at_least.ensures
-    ∙ ap (bit_and (mask_along least c.args.at 64)) c.residue_word.ensures
-    ∙ along_and least residue c.args.at 64
+    c.with_residue.ensures (λ (m : ℕ). nat_le c.args.bound (v m)) c.at_least_word.ensures
     ∙ ap (λ (t : CondKind). mask_along (λ m. kind_test t (v m) c.args.bound) c.args.at 64) (sym c.in-AtLeast.is)

@@ -1,12 +1,12 @@
 use Rattle.std.proofs.Common.{◌≡◌, ℕ, ◌+◌, ◌&&◌, true, bit_and, drop, get_or, refl, ap, sym, ◌∙◌, arith}
 use Rattle.std.specs.List.{list_all}
 use Rattle.frame_count.specs.Row.{left_along, mask_along}
-use Rattle.frame_count.proofs.Along.{along_and, along_same, along_true, along_zero}
+use Rattle.frame_count.proofs.Along.{along_and, along_same, along_all, along_zero}
 use Rattle.frame_count.proofs.ByKind.{all_more}
 use Rattle.frame_count.proofs.row.left_word.Goals as goal
 
 pub loop-cond-init : goal.loop-cond-init
-loop-cond-init c = (λ m. true, (let h = along_true c.args.at 64 in omega arith), λ m. refl)
+loop-cond-init c = (λ m. true, along_all (λ m. true) c.args.at (λ m. refl), λ m. refl)
 
 pub loop-cond-preserved : goal.loop-cond-preserved
 loop-cond-preserved c =

@@ -1,6 +1,5 @@
-use Rattle.std.proofs.Common.{true, sym, arith, ◌∙◌}
-use Rattle.frame_count.specs.Row.{left_along}
-use Rattle.frame_count.proofs.Along.{along_same, along_true}
+use Rattle.std.proofs.Common.{sym, ◌∙◌}
+use Rattle.frame_count.proofs.Along.{along_same, along_all}
 use Rattle.frame_count.proofs.row.one_word.Goals as goal
 
 pub returns-then-is_left : goal.returns-then-is_left
@@ -10,8 +9,4 @@ returns-then-is_left c =
 
 pub returns-else-is_left : goal.returns-else-is_left
 returns-else-is_left c =
-    let all = along_true c.args.at 64 in
-    let same = along_same (λ m. left_along c.args.logs.now.logs c.args.frame.now c.args.stretch m c.args.cond.now)
-    (λ m. true) c.args.at 64
-    (λ m. c.is_left.ensures.passed c.if-is_left.false c.args.logs.now.logs m) in
-    omega arith
+    along_all _ c.args.at (λ m. c.is_left.ensures.passed c.if-is_left.false c.args.logs.now.logs m)

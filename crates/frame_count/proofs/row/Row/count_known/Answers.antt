@@ -25,26 +25,10 @@ count-middle-requires-clause-known c j d lt =
     (get_or c.args.known.now.of j d)
     (λ i l. sym (value (64 * j + i) (omega arith))) (c.requires.known.words j d (omega arith))
 
-pub overflow_add-result : goal.overflow_add-result
-overflow_add-result c =
-    let p : ℕ → Bool = row_holds c.args.self.now in
-    let q : ℕ → Bool = λ m. kind_test c.args.known.now.cond.kind
-    (slice_index c.column-values.result.now m) c.bound-bound.result in
-    let a : ℕ = 64 * c.div_ceil-first.result in
-    let b : ℕ = 64 * c.min-end.result in
-    let front = c.count_within-front.ensures in
-    let x = count_bound p c.args.from (a - c.args.from) in
-    let middle = c.count-middle.ensures in
-    let y = count_bound q a (b - a) in
-    let high = c.requires.row.1.frame.1 in
-    let few = c.requires.row.1.frame.2.few in
-    let to = c.min.ensures in
-    let end = c.min-end.ensures in
-    let some = c.if-first-end.false in
-    record { fits = omega arith }
-
-pub overflow_add-result-2 : goal.overflow_add-result-2
-overflow_add-result-2 c =
+-- the counts of the three parts are those of no more iterations than there are
+parts_fit : (c : goal.After-count_within-back)
+    → c.count_within-front.result + c.count-middle.result + c.count_within-back.result ≤ c.args.to
+parts_fit c =
     let p : ℕ → Bool = row_holds c.args.self.now in
     let q : ℕ → Bool = λ m. kind_test c.args.known.now.cond.kind
     (slice_index c.column-values.result.now m) c.bound-bound.result in
@@ -57,10 +41,23 @@ overflow_add-result-2 c =
     let back = c.count_within-back.ensures in
     let z = count_bound p b (c.args.to - b) in
     let high = c.requires.row.1.frame.1 in
-    let few = c.requires.row.1.frame.2.few in
     let to = c.min.ensures in
     let end = c.min-end.ensures in
     let some = c.if-first-end.false in
+    omega arith
+
+pub overflow_add-result : goal.overflow_add-result
+overflow_add-result c =
+    let fit = parts_fit c in
+    let high = c.requires.row.1.frame.1 in
+    let few = c.requires.row.1.frame.2.few in
+    record { fits = omega arith }
+
+pub overflow_add-result-2 : goal.overflow_add-result-2
+overflow_add-result-2 c =
+    let fit = parts_fit c in
+    let high = c.requires.row.1.frame.1 in
+    let few = c.requires.row.1.frame.2.few in
     record { fits = omega arith }
 
 pub returns : goal.returns
