@@ -1,5 +1,6 @@
 //! Worked picks and listed hits over two logs.
 ghost use Rattle.std.specs.Prelude.{◌≡◌, ◌-◌, ◌*◌, ◌<◌, ◌≤◌, [], ◌∷◌, All, IfOk, length};
+ghost use Rattle.load_log.specs.Values.{Values};
 ghost use Rattle.frame_count.specs.Count.{IsOfLogs};
 
 use super::*;
@@ -79,6 +80,24 @@ fn worked<R: Threads + Sync>(
     Ok(Outcome { picks, hits })
 }
 
+/// The same of two threads that log one value in an iteration, each as many.
+fn of_columns<R: Threads + Sync>(
+    rt: &R,
+    alloc: Global,
+    first: &[u64],
+    second: &[u64],
+    conds: &Conds,
+) -> Result<Outcome, NoMemory>
+    requires few { length first.now ≤ 1000 }
+    requires same { length second.now ≡ length first.now }
+    requires names { (a b : Values) → a.columns ≡ 1 → b.columns ≡ 1 → All (IsOfLogs (a ∷ b ∷ [])) conds.now.conds }
+    requires conjunction { 1 ≤ length conds.now.ends }
+{
+    let n = first.len() as u32;
+    let second = log(alloc, 1, n, second)?;
+    worked(rt, alloc, log(alloc, 1, n, first)?, second, n, conds)
+}
+
 fn is_pair(frame: &Frame, pair: [u32; 2]) -> bool {
     frame.len() == 2 && frame.at(0) == pair[0] && frame.at(1) == pair[1]
 }
@@ -130,33 +149,12 @@ fn store_buffering_picks_and_lists(rt: HostRuntime) -> Result<(), Fail> {
     let alloc = rt.alloc();
     let both = vec![in alloc; reads(0, 0, ZERO), reads(1, 0, ZERO)]?;
     let conds = Conds::new(both, vec![in alloc; 2]?);
-    let late = worked(
-        &rt,
-        alloc,
-        log(alloc, 1, 2, &[1, 2])?,
-        log(alloc, 1, 2, &[0, 0])?,
-        2,
-        &conds,
-    )?;
+    let late = of_columns(&rt, alloc, &[1, 2], &[0, 0], &conds)?;
     assert!(rt; late.picked(0, [0, 1]));
     assert!(rt; late.picked_none(1));
-    let relaxed = worked(
-        &rt,
-        alloc,
-        log(alloc, 1, 2, &[0, 0])?,
-        log(alloc, 1, 2, &[0, 0])?,
-        2,
-        &conds,
-    )?;
+    let relaxed = of_columns(&rt, alloc, &[0, 0], &[0, 0], &conds)?;
     assert!(rt; relaxed.listed(&[[0, 0], [1, 0]]));
-    let drained = worked(
-        &rt,
-        alloc,
-        log(alloc, 1, 2, &[0, 1])?,
-        log(alloc, 1, 2, &[1, 2])?,
-        2,
-        &conds,
-    )?;
+    let drained = of_columns(&rt, alloc, &[0, 1], &[1, 2], &conds)?;
     assert!(rt; drained.listed(&[]));
     Ok(())
 }
@@ -167,26 +165,12 @@ fn conjunctions_list_their_finds_in_turn(rt: HostRuntime) -> Result<(), Fail> {
     for kind in [ONE, JUST_ONE] {
         let either = vec![in alloc; reads(0, 0, kind), reads(1, 0, kind)]?;
         let conds = Conds::new(either, vec![in alloc; 1, 2]?);
-        let drained = worked(
-            &rt,
-            alloc,
-            log(alloc, 1, 2, &[0, 1])?,
-            log(alloc, 1, 2, &[1, 2])?,
-            2,
-            &conds,
-        )?;
+        let drained = of_columns(&rt, alloc, &[0, 1], &[1, 2], &conds)?;
         assert!(rt; drained.listed(&[[1, 0], [0, 0], [1, 1]]));
     }
     let mixed = vec![in alloc; reads(0, 0, ZERO), reads(1, 0, ZERO), reads(0, 0, ONE)]?;
     let conds = Conds::new(mixed, vec![in alloc; 2, 3]?);
-    let relaxed = worked(
-        &rt,
-        alloc,
-        log(alloc, 1, 2, &[0, 0])?,
-        log(alloc, 1, 2, &[0, 0])?,
-        2,
-        &conds,
-    )?;
+    let relaxed = of_columns(&rt, alloc, &[0, 0], &[0, 0], &conds)?;
     assert!(rt; relaxed.listed(&[[0, 0], [1, 0]]));
     let twice = vec![in alloc;
         reads(0, 0, ZERO),
@@ -195,14 +179,7 @@ fn conjunctions_list_their_finds_in_turn(rt: HostRuntime) -> Result<(), Fail> {
         reads(0, 0, ZERO),
     ]?;
     let conds = Conds::new(twice, vec![in alloc; 2, 4]?);
-    let once = worked(
-        &rt,
-        alloc,
-        log(alloc, 1, 1, &[0])?,
-        log(alloc, 1, 1, &[0])?,
-        1,
-        &conds,
-    )?;
+    let once = of_columns(&rt, alloc, &[0], &[0], &conds)?;
     assert!(rt; once.listed(&[[0, 0]]));
     Ok(())
 }
