@@ -24,7 +24,7 @@ use Rattle.run_judge.specs.Judgement.{event_of}
 use Rattle.run_witness.specs.Marks.{Mark, is_storing, loop_of, waiting}
 use Rattle.run_witness.specs.Stage.{slot_write}
 use Rattle.run_witness.proofs.Begun.{after_push, memory_after_event}
-use Rattle.run_witness.proofs.Fronts.{body_few}
+use Rattle.seq_conv.proofs.Numbering.{body_short as body_few}
 use Rattle.run_witness.proofs.Reading.{store_stores}
 use Rattle.run_witness.proofs.Slots.{loop_length, not_store_to, waiting_none, waiting_push}
 use Rattle.run_witness.proofs.Stands.{fresh, stores_at}

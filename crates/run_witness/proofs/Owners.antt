@@ -53,7 +53,7 @@ pub record Owned (test : LitmusTest) (n x : ℕ) (o : Origin) : Type 0 where
   pub stores : is_store_to x action ≡ true
   pub among : Among (store_of o) (stores_of test x)
 
-pub owned : (test : LitmusTest) (n x v : ℕ) (o : Origin) → IsOwner test x v (Some o) → v ≤ store_count test x * n
+owned : (test : LitmusTest) (n x v : ℕ) (o : Origin) → IsOwner test x v (Some o) → v ≤ store_count test x * n
     → Owned test n x o
 owned test n x v o h l =
     let a = among_from_contains (stores_of test x) (store_of o) h.store in
@@ -178,6 +178,12 @@ other_value test n logs e x v right ev k at other =
     subst P (sym at) (match_false (stores_to test e.thread (event_location test e)) _ _
     (ap (stores_to test e.thread) (sym at) ∙ other) r)
 
+pub owned_for : (test : LitmusTest) (n : ℕ) (logs : List Values) (e : Event) (x v : ℕ) (o : Origin)
+    → AreRight test n logs → IsEvent test n logs e → e.kind ≡ Read v → x ≡ event_location test e
+    → stores_to test e.thread x ≡ false → IsOwner test x v (Some o) → Owned test n x o
+owned_for test n logs e x v o right ev k at other h =
+    owned test n x v o h (other_value test n logs e x v right ev k at other)
+
 pub waits_some : (test : LitmusTest) (n : ℕ) (logs : List Values) (ms : List Mark) (words : List ℕ)
     (events : List Event) (e : Event) (x v : ℕ) → IsStage test n logs ms words events
     → IsFront test n logs (at_marks ms) e → e.kind ≡ Read v → x ≡ event_location test e → x < 16
@@ -194,15 +200,6 @@ waits_some test n logs ms words events e x v st f k at l other ne =
         → (after_all test initial events).memory (event_location test e) ≤ v → 1 ≤ v
     go (inl q) word le = absurd (ne (omega arith))
     go (inr q) word le = q
-
-pub get_mapped : {X Y : Type 0} (f : X → Y) (xs : List X) (i : ℕ) (d : X) → i < length xs → d ≡ get_or xs i d
-    → slice_get (map f xs) i ≡ Some (f d)
-get_mapped f [] i d l e = absurd (omega arith)
-get_mapped f (x ∷ xs) zero d l e = ap (λ z. Some (f z)) (sym e)
-get_mapped f (x ∷ xs) (suc i) d l e = get_mapped f xs i d (omega arith) e
-
-pub grid_within : (t x k : ℕ) → t < k → x < 16 → t * 16 + x < k * 16
-grid_within t x k l m = omega arith
 
 pub write_is_event : (test : LitmusTest) (n : ℕ) (logs : List Values) (e : Event) → e.thread < length test.bodies
     → e.place < length (body_of test e.thread) → e.iteration < n
