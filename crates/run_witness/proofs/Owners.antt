@@ -1,6 +1,6 @@
 -- The write that a read waits for.
-use Rattle.std.proofs.Common.{◌≡◌, ℕ, zero, suc, ◌+◌, ◌-◌, ◌*◌, ◌<◌, ◌≤◌, ◌==◌, Bool, true, false, cond, ◌&&◌, Option, None, Some, List, [], ◌∷◌, ◌++◌, length, map, slice_get, get_or, refl, sym, ap, ◌∙◌, arith, subst, inl, inr, ◌⊎◌, All, Contains, MatchBool, eq-eqb, mul-le-mul_right, unwrap_or, IfSome, MatchOption, option_and_then, zero-mul}
-use Rattle.std.proofs.lemmas.Bool.{and_from, and_parts, cases_lt, cases_eq, eqb-true, or_right, true≢false}
+use Rattle.std.proofs.Common.{◌≡◌, ℕ, zero, suc, ◌+◌, ◌*◌, ◌<◌, ◌≤◌, ◌==◌, Bool, true, false, Option, None, Some, List, [], ◌∷◌, length, slice_get, get_or, refl, sym, ap, ◌∙◌, arith, subst, inl, inr, ◌⊎◌, eq-eqb, mul-le-mul_right, unwrap_or, IfSome, MatchOption, option_and_then, zero-mul}
+use Rattle.std.proofs.lemmas.Bool.{and_from, cases_lt, cases_eq, true≢false}
 use Rattle.std.proofs.lemmas.Option.{slice_get_within}
 use Rattle.std.specs.List.{AllByRecursion as Each}
 use Rattle.std.specs.Option.{option_map_or}
@@ -11,8 +11,8 @@ use Rattle.x86_subset.specs.declared.instr.Instr.{Instr}
 use Rattle.x86_subset.specs.declared.instr.Instr.TheVariants.{Store, Load, Fence, Exchange}
 use Rattle.x86_subset.specs.Shape.{IsLocated, IsTest}
 use Rattle.load_log.specs.Values.{Values}
-use Rattle.tso_machine.specs.Event.{Event, Kind, Push, Drain, Read, Fenced, Exchanged, event_location, is_drain, is_drain_kind, site_of, written_value}
-use Rattle.tso_machine.specs.Machine.{NeedsAs, after_all, initial, readable}
+use Rattle.tso_machine.specs.Event.{Event, Kind, Push, Drain, Read, Fenced, event_location, is_drain, is_drain_kind, site_of, written_value}
+use Rattle.tso_machine.specs.Machine.{after_all, initial}
 use Rattle.seq_conv.specs.Numbers.{IsOwner, Table}
 use Rattle.tso_machine.specs.Part.{Slot}
 use Rattle.seq_conv.specs.Sequence.{Site, rank_of, site_location, store_count, stores_of, value_of, Origin, store_of}
@@ -23,16 +23,16 @@ use Rattle.seq_conv.proofs.Stores.{IsStoreOf, location_at_store, rank_within, st
 use Rattle.run_judge.specs.Judgement.{event_of}
 use Rattle.run_judge.specs.declared.event.RunEvent.{RunEvent}
 use Rattle.run_witness.specs.Marks.{Mark, index_of, is_storing, loop_of, stored}
-use Rattle.run_witness.specs.Order.{IsEvent, MustPrecede, deed_kind, is_store, logged, stores_to}
-use Rattle.run_witness.specs.Order.MustPrecede.{program, buffered, queued, awaited, read_from, from_read}
-use Rattle.run_witness.specs.Right.{AreRight, IsRightFor, Reads}
-use Rattle.run_witness.specs.Search.{AreRows, IsCase, IsLast, IsOpenRead, IsReadOf, IsRow}
-use Rattle.run_witness.specs.Stage.{Blocks, CanGo, FromRead, IsBegun, IsClear, IsFront, IsOpen, IsStage, Stands, at_marks, bound, writer_of}
+use Rattle.run_witness.specs.Order.{IsEvent, deed_kind, is_store, logged, stores_to}
+use Rattle.run_witness.specs.Order.MustPrecede.{read_from}
+use Rattle.run_witness.specs.Right.{AreRight}
+use Rattle.run_witness.specs.Search.{IsCase}
+use Rattle.run_witness.specs.Stage.{Blocks, IsClear, IsFront, IsOpen, IsStage, at_marks, writer_of}
 use Rattle.run_witness.proofs.Begun.{deed_kind_of, writers}
 use Rattle.run_witness.proofs.Reading.{store_stores}
 use Rattle.run_witness.proofs.Slots.{has_item, stored_lt}
-use Rattle.run_witness.proofs.Stands.{IsOf, stores_here, value_is, writer_is}
-use Rattle.run_witness.proofs.Steps.{event_of_slot, memory_storing}
+use Rattle.run_witness.proofs.Stands.{IsOf}
+use Rattle.run_witness.proofs.Steps.{event_of_slot, memory_storing, writes_at}
 use Rattle.run_witness.proofs.Waits.{match_false, read_by, right_value}
 
 -- Owners.
@@ -115,19 +115,15 @@ writer_blocks test table n logs ms words events e b x v o case right st f k at l
     let less : s.memory (event_location test e) < v = strict le word in
     let storing = memory_storing test n logs b ev m in
     let of = event_of_slot test n logs b ev in
-    let here : is_store_to x ev.action ≡ true = (let P : ℕ → Type 0 = λ z. is_store_to z ev.action ≡ true in
-    subst P loc (stores_here test n b (index_of test b) ev.action of storing)) in
-    let val : written_value test b ≡ stored x (loop_of test n b.thread) (index_of test b) + 1 = value_is test n b
-    (index_of test b) ev.action (w (event_location test b)) (ws (event_location test b)) of storing
-    ∙ ap (λ z. stored z (loop_of test n b.thread) (index_of test b) + 1) loc in
-    let mine : b.thread ≡ w x = writer_is test n b (index_of test b) ev.action x (w x) (ws x) of here in
+    let r = writes_at test n w logs b x ws ev m loc in
+    let val = r.value in
     let memory : s.memory (event_location test e)
     ≡ stored x (loop_of test n b.thread) (marks b.thread).drained = ap s.memory (sym at)
-    ∙ st.begun.stands.memory x (w x) (ws x) ∙ ap (λ u. stored x (loop_of test n u) (marks u).drained) (sym mine) in
+    ∙ st.begun.stands.memory x (w x) (ws x) ∙ ap (λ u. stored x (loop_of test n u) (marks u).drained) (sym r.mine) in
     let slot : Slot = record { iteration = b.iteration; place = b.place; action = ev.action } in
     let after : (index_of test b < (marks b.thread).drained)
     → ⊥ = λ g. (let q = stored_lt x (loop_of test n b.thread) (index_of test b)
-    (marks b.thread).drained slot of here g in omega arith) in
+    (marks b.thread).drained slot of r.here g in omega arith) in
     record {
       event = ev;
       free =

@@ -1,24 +1,19 @@
 -- Each event of a run is a step: a deed or a Drain.
-use Rattle.std.proofs.Common.{◌≡◌, ℕ, zero, suc, ◌+◌, ◌*◌, ◌<◌, ◌≤◌, ◌==◌, Bool, true, false, cond, not, Some, List, [], ◌∷◌, length, filter, drop, slice_get, refl, sym, ap, ◌∙◌, arith, subst, inl, inr, ◌⊎◌, suc-add, eq-eqb, ne_eqb}
-use Rattle.std.proofs.lemmas.Bool.{and_parts, cases_lt, eqb-true, true≢false}
-use Rattle.std.proofs.lemmas.Option.{slice_get_within}
-use Rattle.std.specs.List.{AllZip, AllByRecursion as Each}
-use Rattle.x86_subset.specs.Instr.{is_store_to}
-use Rattle.x86_subset.specs.Test.{LitmusTest, body_of}
+use Rattle.std.proofs.Common.{◌≡◌, ℕ, ◌+◌, ◌<◌, ◌≤◌, ◌==◌, Bool, true, false, cond, not, List, [], ◌∷◌, filter, drop, refl, sym, ap, ◌∙◌, arith, subst, inl, inr, ◌⊎◌, eq-eqb}
+use Rattle.std.proofs.lemmas.Bool.{cases_lt, true≢false}
+use Rattle.std.specs.List.{AllZip}
+use Rattle.x86_subset.specs.Test.{LitmusTest}
 use Rattle.x86_subset.specs.declared.instr.Instr.{Instr}
 use Rattle.x86_subset.specs.declared.instr.Instr.TheVariants.{Store, Load, Fence, Exchange}
 use Rattle.load_log.specs.Values.{Values}
-use Rattle.tso_machine.specs.Event.{Event, Kind, Push, Drain, Read, Fenced, Exchanged, event_location, is_drain, is_drain_kind, written_value}
-use Rattle.tso_machine.specs.Log.{value_read, value_read_as}
-use Rattle.tso_machine.specs.Machine.{Needs, NeedsAs, State, Steps, after, after_as, after_all, readable, updated}
-use Rattle.tso_machine.specs.Part.{Fills, Gives, Slot, part_of}
-use Rattle.seq_conv.specs.Sequence.{action_at}
-use Rattle.tso_machine.specs.Source.{is_memory_kind, is_memory_write}
+use Rattle.tso_machine.specs.Event.{Event, Kind, Push, Drain, Read, Fenced, Exchanged, is_drain, is_drain_kind}
+use Rattle.tso_machine.specs.Machine.{NeedsAs, State, after, after_as, updated}
+use Rattle.tso_machine.specs.Part.{Fills, Gives, part_of}
+use Rattle.tso_machine.specs.Source.{is_memory_kind}
 use Rattle.tso_machine.proofs.Parts.{deeds}
 use Rattle.run_witness.specs.Stage.{IsOpen, bound}
-use Rattle.run_witness.specs.Marks.{Mark, index_of, is_storing, loop_of, stored}
-use Rattle.run_witness.specs.Order.{IsEarlier, IsEvent, MustPrecede, deed_kind, is_barrier, is_store, logged}
-use Rattle.run_witness.specs.Order.MustPrecede.{program, buffered, queued, awaited, read_from, from_read}
+use Rattle.run_witness.specs.Marks.{Mark, index_of, is_storing, loop_of}
+use Rattle.run_witness.specs.Order.{IsEvent, deed_kind, is_store, logged}
 use Rattle.run_witness.proofs.Slots.{none_waits}
 use Rattle.run_witness.proofs.Stands.{AreWriters, Drained, IsOf, Stands, all_drained, done_more, empty_waits, mark_at, stands_deed, stands_drain, stands_exchange, stands_push}
 use Rattle.run_witness.proofs.Steps.{IsDone, NextSlot, Rest, Step, before_deed, before_drain, bound_deed, bound_drain, deed_no_drain, deed_only, drain_stores, fills_after, given_kind, index_is, next_by, no_drain_among, one_event, open_deed, open_drain, same_index}
