@@ -1,5 +1,5 @@
 -- The line of an event is read as that event.
-use Rattle.std.proofs.Common.{◌≡◌, ℕ, ◌^◌, ◌<◌, true, Option, Some, List, [], ◌∷◌, ◌++◌, codes, decimal, refl, ap, ◌∙◌, arith}
+use Rattle.std.proofs.Common.{◌≡◌, ℕ, ◌^◌, ◌<◌, true, Option, Some, List, [], ◌∷◌, ◌++◌, codes, decimal, refl, ap, ◌∙◌}
 use Rattle.x86_subset.specs.Token.{is_blank}
 use Rattle.litmus_reader.specs.Front.{words}
 use Rattle.run_judge.specs.Line.{kind_text}
@@ -8,7 +8,7 @@ use Rattle.run_judge.specs.declared.event.RunKind.{RunKind}
 use Rattle.run_judge.specs.declared.event.RunKind.TheVariants.{Push, Drain, Fence, Read, Exchange}
 use Rattle.run_text.specs.Events.{event_by, event_of, kind_of, kind_with, valued_kind}
 use Rattle.run_text.specs.Laws.{EventsAreReadBack, HasWidth}
-use Rattle.run_text.proofs.WordsBack.{IsWord, cut, decimal_is_word, large_back, small_back, wide}
+use Rattle.run_text.proofs.WordsBack.{IsWord, cut, decimal_is_word, is_word, large_back, small_back, wide}
 
 -- the words of a kind's text, and the kind that they tell
 record IsKindBack (k : RunKind) : Type 0 where
@@ -38,26 +38,6 @@ verb_with verb v h k =
     cut verb 32 (decimal v ++ codes "\n") h blank_32
     ∙ ap (λ ws. verb ∷ ws) (verb_alone (decimal v) (decimal_is_word v k))
 
-is_push : IsWord (codes "push")
-unfolding is_blank
-is_push = record { some = omega arith; plain = refl }
-
-is_drain : IsWord (codes "drain")
-unfolding is_blank
-is_drain = record { some = omega arith; plain = refl }
-
-is_fence : IsWord (codes "fence")
-unfolding is_blank
-is_fence = record { some = omega arith; plain = refl }
-
-is_read : IsWord (codes "read")
-unfolding is_blank
-is_read = record { some = omega arith; plain = refl }
-
-is_exchange : IsWord (codes "exchange")
-unfolding is_blank
-is_exchange = record { some = omega arith; plain = refl }
-
 -- a kind whose text is a verb, and one whose text is a verb and a value
 alone : (k : RunKind) (verb : List ℕ) → IsWord verb → kind_text k ≡ 32 ∷ (verb ++ codes "\n") → kind_of verb [] ≡ Some k
     → IsKindBack k
@@ -82,16 +62,17 @@ valued k verb v h small text kind = record {
 }
 
 kind_back : (k : RunKind) → HasWidth k → IsKindBack k
-kind_back Push h = alone Push (codes "push") is_push refl refl
-kind_back Drain h = alone Drain (codes "drain") is_drain refl refl
-kind_back Fence h = alone Fence (codes "fence") is_fence refl refl
-kind_back (Read v) h = valued (Read v) (codes "read") v is_read h refl refl
-kind_back (Exchange v) h = valued (Exchange v) (codes "exchange") v is_exchange h refl refl
+unfolding is_blank
+kind_back Push h = alone Push (codes "push") (is_word _ _ refl) refl refl
+kind_back Drain h = alone Drain (codes "drain") (is_word _ _ refl) refl refl
+kind_back Fence h = alone Fence (codes "fence") (is_word _ _ refl) refl refl
+kind_back (Read v) h = valued (Read v) (codes "read") v (is_word _ _ refl) h refl refl
+kind_back (Exchange v) h = valued (Exchange v) (codes "exchange") v (is_word _ _ refl) h refl refl
 
 -- the words in front of a kind's
 is_thread : (t : ℕ) → t < 2 ^ 64 → IsWord (80 ∷ decimal t)
 unfolding is_blank
-is_thread t h = record { some = omega arith; plain = (decimal_is_word t h).plain }
+is_thread t h = is_word 80 (decimal t) (decimal_is_word t h).plain
 
 front_words : (t n p : ℕ) (tail : List ℕ) → t < 2 ^ 64 → n < 2 ^ 64 → p < 2 ^ 64
     → words ((80 ∷ decimal t) ++ 32 ∷ (decimal n ++ 32 ∷ (decimal p ++ 32 ∷ tail))) ≡ (80 ∷ decimal t) ∷ decimal n

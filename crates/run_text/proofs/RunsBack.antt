@@ -19,7 +19,7 @@ use Rattle.run_text.specs.Sections.{iterations_of, parted, split_of, within_iter
 use Rattle.run_text.proofs.EventsBack.{event_back}
 use Rattle.run_text.proofs.LinesBack.{IsFed, after_plain, fed_lines, lines_after, lines_together}
 use Rattle.run_text.proofs.SectionsBack.{parted_here}
-use Rattle.run_text.proofs.WordsBack.{IsWord, by_digits, cut, decimal_is_word, large_back, wide}
+use Rattle.run_text.proofs.WordsBack.{by_digits, cut, decimal_is_word, is_word, large_back, wide}
 
 -- ---- each line of a written run is one line
 
@@ -63,14 +63,10 @@ section_fed : (n : ℕ) → n < 2 ^ 64 → IsFed (section_line n)
 section_fed n h =
     after_plain (codes "%events ") (decimal n ++ codes "\n") refl (after_decimal n (codes "\n") h feed_fed)
 
-is_heading : IsWord (codes "%events")
-unfolding is_blank
-is_heading = record { some = omega arith; plain = refl }
-
 section_words : (n : ℕ) → n < 2 ^ 64 → words (section_line n) ≡ codes "%events" ∷ decimal n ∷ []
 unfolding is_blank
 section_words n h =
-    cut (codes "%events") 32 (decimal n ++ codes "\n") is_heading refl
+    cut (codes "%events") 32 (decimal n ++ codes "\n") (is_word _ _ refl) refl
     ∙ ap (λ ws. codes "%events" ∷ ws) (cut (decimal n) 10 [] (decimal_is_word n h) refl)
 
 section_tells : (n : ℕ) → 1 ≤ n → n ≤ 100000 → iterations_of (codes "%events") (words (section_line n)) ≡ Some n

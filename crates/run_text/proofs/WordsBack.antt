@@ -19,6 +19,9 @@ pub record IsWord (w : List ℕ) : Type 0 where
   pub some : 0 < length w
   pub plain : list_all is_word_byte w ≡ true
 
+pub is_word : (b : ℕ) (bs : List ℕ) → list_all is_word_byte (b ∷ bs) ≡ true → IsWord (b ∷ bs)
+is_word b bs h = record { some = omega arith; plain = h }
+
 -- a word in front of a blank
 pub cut : (w : List ℕ) (b : ℕ) (rest : List ℕ) → IsWord w → is_blank b ≡ true → words (w ++ b ∷ rest) ≡ w ∷ words rest
 cut w b rest h e =
