@@ -17,7 +17,8 @@ use Rattle.perple_core.specs.Texts.{kinds_of, schedule_of}
 use Rattle.perple_core.specs.Top.{HasAnswer, IsText, WritesPart, WritesWhole}
 use Rattle.perple_core.proofs.Accepting.{none_due_has_kinds}
 use Rattle.forbidden_runs.specs.Laws.{AsksFor, IsCall, PerpleReportsNothingForbidden, read_test}
-use Rattle.forbidden_runs.specs.Texts.{IsForbidden, zero_text}
+use Rattle.forbidden_runs.specs.Forbidden.{IsForbidden}
+use Rattle.forbidden_runs.specs.Texts.{zero_text}
 use Rattle.litmus_reader.proofs.TestLaws.{reads_tests}
 use Rattle.forbidden_runs.proofs.Reports.{replays_give_no_other_text, runs_give_no_other_text}
 

@@ -1,5 +1,5 @@
--- The reports of a test whose conjunctions all have cycles.
-use Rattle.std.proofs.Common.{◌≡◌, ℕ, zero, suc, ◌*◌, ◌^◌, ◌≤◌, ◌++◌, true, List, [], ◌∷◌, All, Contains, Global, Vec, length, filter, map, codes, decimal, refl, sym, ap, ap₂, append-nil, append_assoc, subst, ◌∙◌, arith}
+-- What forbids a test, and the reports of a forbidden one.
+use Rattle.std.proofs.Common.{◌≡◌, ℕ, zero, suc, ◌*◌, ◌^◌, ◌≤◌, ◌++◌, true, List, [], ◌∷◌, All, Contains, Global, Vec, length, filter, map, codes, decimal, refl, sym, ap, ap₂, append-nil, append_assoc, inl, inr, subst, ◌∙◌, arith}
 use native.Mathlib.Nat.{pow-suc}
 use Rattle.std.proofs.lemmas.Fmt.{decimal_digit}
 use Rattle.std.specs.List.{range_with_len}
@@ -23,11 +23,32 @@ use Rattle.report_text.specs.Report.{ReportRows, asked_line, count_lines, head_l
 use Rattle.report_text.specs.Words.{number_line}
 use Rattle.perple_core.specs.Texts.{asked, asks_exhaustive, asks_heuristic, frame_count_of, hit_count_of, is_negated, listed_hits_of, report_rows, text_of}
 use Rattle.perple_core.proofs.Accepting.{kinds_are}
-use Rattle.verdict.specs.Verdicts.{AreCycles}
 use Rattle.verdict.specs.declared.node.Node.{Node}
-use Rattle.verdict.proofs.Forward.{forbidden_has_no_hits_lem}
-use Rattle.forbidden_runs.specs.Laws.{ForbiddenReplaysGiveNoOtherText, ForbiddenRunsGiveNoOtherText, ForbiddenRunsReportNothing, ForbiddenVerdictsForbid}
-use Rattle.forbidden_runs.specs.Texts.{IsForbidden, head_text, zero_lines}
+use Rattle.verdict.proofs.Forward.{cycle_at, cycles_forbid_lem, none_hits}
+use Rattle.decision.specs.Decisions.{NeverHolds}
+use Rattle.decision.proofs.HiddenReads.{found_never_holds}
+use Rattle.forbidden_runs.specs.Forbidden.{HasReason, IsForbidden}
+use Rattle.forbidden_runs.specs.Laws.{ForbiddenReplaysGiveNoOtherText, ForbiddenRunsGiveNoOtherText, ForbiddenRunsReportNothing, ForbiddenVerdictsForbid, ReasonsForbid}
+use Rattle.forbidden_runs.specs.Texts.{head_text, zero_lines}
+
+-- ---- what forbids
+
+reason_forbids : (checked : CheckedTest) (c : ℕ) → IsChecked checked → HasReason checked c → NeverHolds checked c
+reason_forbids checked c is (inl cycle) =
+    λ n run frame runs at. cycles_forbid_lem checked n c run frame cycle.0 is runs at cycle.1
+reason_forbids checked c is (inr hidden) = found_never_holds checked c hidden.0 is hidden.1
+
+-- the kinds that a check found are those that a text has
+pub reasons_forbid : ReasonsForbid
+reasons_forbid checked is reasons =
+    subst (λ (kinds : List AtomKind). IsForbidden (record { test = checked.test; kinds = kinds }))
+    (sym (kinds_are checked.test checked.kinds is.kinds))
+    (λ c there. reason_forbids checked c is (reasons c there))
+
+pub verdicts_forbid : ForbiddenVerdictsForbid
+verdicts_forbid checked cycles is verdict =
+    let nodes : List (List Node) = map (λ (cycle : Vec Node Global). cycle.items) cycles.items in
+    reasons_forbid checked is (λ c there. inl (cycle_at checked (length checked.test.ends) c nodes verdict there))
 
 -- ---- no hits
 
@@ -45,7 +66,7 @@ no_hits : (checked : CheckedTest) (n : ℕ) (run : List Event)
 no_hits checked zero run is forbidden runs =
     ap (filter (is_hit checked.test checked.kinds run)) (no_frames (length checked.test.bodies) is.test.some_threads)
 no_hits checked (suc n) run is forbidden runs =
-    forbidden_has_no_hits_lem checked (suc n) run forbidden.0 is runs (omega arith) forbidden.1
+    none_hits checked (suc n) run (omega arith) (λ c there frame at. forbidden c there (suc n) run frame runs at)
 
 none_among : (listed : List (List ℕ)) → All (Contains []) listed → listed ≡ []
 none_among [] all = refl
@@ -62,15 +83,6 @@ none_listed checked n run is forbidden runs =
     (subst (λ (hits : List (List ℕ)). All (Contains hits) (picked_hits checked.test n run checked.kinds))
     (no_hits checked n run is forbidden runs)
     (listed_are_hits_lem checked.test n run checked.kinds is.test.holds_reads runs is.kinds))
-
--- a verdict on the kinds that a check found is one on those that a text has
-pub verdicts_forbid : ForbiddenVerdictsForbid
-verdicts_forbid checked cycles is verdict =
-    let nodes : List (List Node) = map (λ (cycle : Vec Node Global). cycle.items) cycles.items in (
-      nodes,
-      subst (λ (kinds : List AtomKind). AreCycles (record { test = checked.test; kinds = kinds }) nodes)
-          (sym (kinds_are checked.test checked.kinds is.kinds)) verdict,
-    )
 
 -- ---- the report of so many hits, and of these listed ones
 

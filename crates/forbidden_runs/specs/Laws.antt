@@ -1,6 +1,7 @@
--- Laws: of a test whose conjunctions all have cycles `run` and `replay` report that nothing was seen. The runs are
--- those of x86-TSO (Sewell, Sarkar, Owens, Zappa Nardelli and Myreen, CACM 2010); that cycles forbid an outcome is
--- after Alglave, Maranget and Tautschnig ("Herding cats", TOPLAS 2014).
+-- Laws: of a forbidden test `run` and `replay` report that nothing was seen; and a test is forbidden where each
+-- conjunction has a cycle or a hidden read. The runs are those of x86-TSO (Sewell, Sarkar, Owens, Zappa Nardelli and
+-- Myreen, CACM 2010); that cycles forbid an outcome is after Alglave, Maranget and Tautschnig ("Herding cats", TOPLAS
+-- 2014).
 use Rattle.std.specs.Prelude.{◌≡◌, ◌⊎◌, ℕ, ◌<◌, List, ◌++◌, Some, Vec, length, take}
 use Rattle.std.specs.Global.{Global}
 use Rattle.x86_subset.specs.Test.{LitmusTest}
@@ -22,7 +23,8 @@ use Rattle.perple_core.specs.Top.{IsTextOfRun, IsTextOfSchedule, WritesPart, Wri
 use Rattle.verdict.specs.Verdicts.{IsVerdict}
 use Rattle.verdict.specs.declared.answer.Verdict.TheVariants.{Forbidden}
 use Rattle.verdict.specs.declared.node.Node.{Node}
-use Rattle.forbidden_runs.specs.Texts.{IsForbidden, zero_text}
+use Rattle.forbidden_runs.specs.Forbidden.{HasReason, IsForbidden}
+use Rattle.forbidden_runs.specs.Texts.{zero_text}
 
 -- law: the text of each run of a forbidden test is the report that nothing was seen
 abbrev pub ForbiddenRunsReportNothing : Type 0
@@ -59,7 +61,15 @@ AsksFor words job = (command_of words ≡ Some (Run job)) ⊎ (command_of words 
 abbrev pub read_test : LitmusTest → CheckedTest
 read_test test = record { test = test; kinds = kinds_of test }
 
--- law: where `verdict` answers Forbidden, the test is forbidden as it is read
+-- law: where each conjunction has a cycle or a hidden read, the test is forbidden as it is read
+abbrev pub ReasonsForbid : Type 0
+ReasonsForbid =
+    (checked : CheckedTest)
+    → IsChecked checked
+    → ((c : ℕ) → c < length checked.test.ends → HasReason checked c)
+    → IsForbidden (read_test checked.test)
+
+-- law: so where `verdict` answers Forbidden, the test is forbidden as it is read
 abbrev pub ForbiddenVerdictsForbid : Type 0
 ForbiddenVerdictsForbid =
     (checked : CheckedTest) (cycles : Vec (Vec Node Global) Global)

@@ -1,2 +1,3 @@
+pub mod Forbidden
 pub mod Texts
 pub mod Laws

@@ -1,16 +1,13 @@
--- The report that nothing was seen, line by line, and the tests that always get it. The counts are PerpLE's
--- (Melissaris, Markakis, Shaw and Martonosi, MICRO 2020); the texts are this project's own.
+-- The report that nothing was seen, line by line. The counts are PerpLE's (Melissaris, Markakis, Shaw and Martonosi,
+-- MICRO 2020); the texts are this project's own.
 use Rattle.std.specs.Prelude.{ℕ, List, ◌++◌, length, codes}
 use Rattle.x86_subset.specs.Test.{LitmusTest}
-use Rattle.profile_check.specs.Profile.{CheckedTest}
 use Rattle.command_words.specs.Job.{Asked as Job}
 use Rattle.command_words.specs.declared.job.Count.{Count}
 use Rattle.command_words.specs.declared.job.Count.TheVariants.{Exhaustive, Heuristic, Both}
 use Rattle.report_text.specs.Report.{condition_line}
 use Rattle.report_text.specs.Words.{number_line, test_line}
 use Rattle.perple_core.specs.Texts.{frame_count_of, is_negated}
-use Rattle.verdict.specs.Verdicts.{AreCycles}
-use Rattle.verdict.specs.declared.node.Node.{Node}
 
 -- the lines that say what was run
 abbrev pub head_text : LitmusTest → ℕ → List ℕ
@@ -32,7 +29,3 @@ zero_text test job =
     head_text test job.options.iterations
     ++ zero_lines job.count (frame_count_of test job.options)
     ++ codes "Seen no\n"
-
--- each conjunction of the checked test has a cycle of edges, as `verdict` finds them
-abbrev pub IsForbidden : CheckedTest → Type 0
-IsForbidden checked = (cycles : List (List Node)) × AreCycles checked cycles

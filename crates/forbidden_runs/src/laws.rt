@@ -1,5 +1,5 @@
-//! What `run` and `replay` write of a test whose conjunctions all have cycles.
-ghost use Rattle.forbidden_runs.specs.Laws.{ForbiddenReplaysGiveNoOtherText, ForbiddenRunsGiveNoOtherText, ForbiddenRunsReportNothing, ForbiddenVerdictsForbid, PerpleReportsNothingForbidden};
+//! What `run` and `replay` write of a forbidden test, and what forbids one.
+ghost use Rattle.forbidden_runs.specs.Laws.{ForbiddenReplaysGiveNoOtherText, ForbiddenRunsGiveNoOtherText, ForbiddenRunsReportNothing, ForbiddenVerdictsForbid, PerpleReportsNothingForbidden, ReasonsForbid};
 
 /// The text of each run is the report that nothing was seen.
 pub fn forbidden_runs_report_nothing()
@@ -16,7 +16,12 @@ pub fn forbidden_replays_give_no_other_text()
     ensures { ForbiddenReplaysGiveNoOtherText }
 {}
 
-/// Where `verdict` answers `Forbidden` for a test, it is forbidden as a text that is read.
+/// Where each conjunction of a test has a cycle or a hidden read, it is forbidden as a text that is read.
+pub fn reasons_forbid()
+    ensures { ReasonsForbid }
+{}
+
+/// So it is where `verdict` answers `Forbidden`.
 pub fn forbidden_verdicts_forbid()
     ensures { ForbiddenVerdictsForbid }
 {}

@@ -1,5 +1,6 @@
-//! Each text of examples/, by `verdict` and by `perple`.
+//! Texts of examples/, by `verdict` and `hidden_read` and by `perple`.
 use super::*;
+use decision::hidden_read;
 use litmus_reader::read_litmus;
 use perp_base::{MemSink, MemSource};
 use perple_core::{Field, NoGate, perple};
@@ -10,11 +11,17 @@ use std::test::Fail;
 use std::thread::Threads;
 use verdict::{Verdict, verdict};
 
-/// A text, and what `run 50 --count both` writes of it where its verdict is Forbidden.
-const ROWS: [(&str, Option<&str>); 11] = [
+/// A text, and what `run 50 --count both` writes of it where its one conjunction has a cycle or a hidden read.
+const ROWS: [(&str, Option<&str>); 12] = [
     (
         "X86 BUF\n{ }\n P0 ;\n MOV [x],$1 ;\n MOV [y],$1 ;\n MOV EAX,[x] ;\nexists (0:EAX=1)\n",
         None,
+    ),
+    (
+        "X86 COWW\n{ }\n P0 ;\n MOV [x],$1 ;\n MOV [x],$2 ;\n MOV EAX,[x] ;\nexists (0:EAX=1)\n",
+        Some(
+            "Test COWW\nThreads 1\nIterations 50\nCondition exists 1\nFrames 50\nExhaustive 0\nHeuristic 0\nSeen no\n",
+        ),
     ),
     (
         "X86 SB\n\"Fre PodWR Fre PodWR\"\nPrefetch=0:x=F,0:y=T,1:y=F,1:x=T\nCom=Fr Fr\nOrig=Fre PodWR Fre PodWR\n{\n}\n P0          | P1          ;\n MOV [x],$1  | MOV [y],$1  ;\n             |             ;\n MOV EAX,[y] | MOV EAX,[x] ;\nlocations [x; y;]\nexists (0:EAX=0 /\\ 1:EAX=0)\n",
@@ -68,7 +75,7 @@ const ROWS: [(&str, Option<&str>); 11] = [
     ),
 ];
 
-/// Whether the verdict on a text is Forbidden.
+/// Whether the one conjunction of a text has a cycle or a hidden read.
 fn is_forbidden(alloc: Global, text: &[u8]) -> Result<bool, Fail> {
     if text.len() > 65536 {
         return Ok(false);
@@ -78,7 +85,9 @@ fn is_forbidden(alloc: Global, text: &[u8]) -> Result<bool, Fail> {
     let sequences = Sequences::of(alloc, checked.test())?;
     match verdict(alloc, &checked, &sequences)? {
         Verdict::Forbidden(_) => Ok(true),
-        Verdict::Open { .. } => Ok(false),
+        Verdict::Open { conjunction } => {
+            Ok(hidden_read(&checked, &sequences, conjunction).is_some())
+        }
     }
 }
 
