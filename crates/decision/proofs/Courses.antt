@@ -4,7 +4,6 @@ use Rattle.std.proofs.lemmas.Bool.{cases_eq}
 use Rattle.std.proofs.lemmas.List.{length-replicate, map-append}
 use Rattle.std.proofs.lemmas.Option.{unwrap_or-slice_get}
 use Rattle.std.specs.List.{AllByRecursion as Each, list_any}
-use Rattle.std.specs.Option.{option_or}
 use Rattle.x86_subset.specs.Instr.{is_reading, is_store_to, location_of}
 use Rattle.x86_subset.specs.Shape.{IsTest}
 use Rattle.x86_subset.specs.Test.{LitmusTest, body_of}
@@ -12,7 +11,7 @@ use Rattle.x86_subset.specs.declared.instr.Instr.{Instr}
 use Rattle.x86_subset.specs.declared.instr.Reg.{Reg}
 use Rattle.x86_subset.specs.declared.instr.Instr.TheVariants.{Store, Load, Fence, Exchange}
 use Rattle.tso_machine.specs.Event.{Event, Push, Drain, Read, Fenced, Exchanged, event_location, written_value}
-use Rattle.tso_machine.specs.Machine.{State, Write, after_all, initial, newest, readable, updated}
+use Rattle.tso_machine.specs.Machine.{State, after_all, initial, newest, readable, updated}
 use Rattle.seq_conv.specs.Numbers.{AreOf, Table, row_of, value_at}
 use Rattle.tso_machine.specs.Part.{Slot}
 use Rattle.seq_conv.specs.Sequence.{site_location, value_of}
@@ -23,6 +22,7 @@ use Rattle.profile_check.specs.declared.kind.AtomKind.{AtomKind}
 use Rattle.run_judge.specs.Judgement.{event_of}
 use Rattle.run_witness.specs.Marks.{Mark, is_storing, loop_of, waiting}
 use Rattle.run_witness.specs.Stage.{slot_write}
+use Rattle.run_judge.proofs.Shown.{newest_push}
 use Rattle.run_witness.proofs.Begun.{after_push, memory_after_event}
 use Rattle.seq_conv.proofs.Numbering.{body_short as body_few}
 use Rattle.run_witness.proofs.Reading.{store_stores}
@@ -323,17 +323,6 @@ none_more test t d place a none at k i b l m bt = go (cases_eq i place)
         let same : b ≡ a = some_is b a (sym (subst P e bt) ∙ at) in
         ap is_storing same ∙ k
     go (inr ne) = none i b l (omega arith) bt
-
-newest_step : (b : Bool) (v : ℕ) (n c : Option ℕ) → option_or (cond b (Some v) n) c ≡ cond b (Some v) (option_or n c)
-newest_step true v n c = refl
-newest_step false v n c = refl
-
-newest_push : (x : ℕ) (ws : List Write) (v : Write)
-    → newest x (ws ++ v ∷ []) ≡ cond (v.location == x) (Some v.value) (newest x ws)
-newest_push x [] v = refl
-newest_push x (u ∷ ws) v =
-    rw (newest_push x ws v) (newest_step (v.location == x) v.value (newest x ws)
-    (cond (u.location == x) (Some u.value) None))
 
 pub newest_none : (test : LitmusTest) (t d loc : ℕ)
     → None ≡ newest loc (map (slot_write test t) (waiting (loop_of test 1 t) d d))

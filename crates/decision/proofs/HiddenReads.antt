@@ -1,81 +1,40 @@
 -- An rf atom that names a hidden store of the reader's own thread never holds.
-use Rattle.std.proofs.Common.{◌≡◌, ℕ, ◌<◌, ◌≤◌, ◌==◌, Bool, true, false, not, ◌&&◌, ◌||◌, Option, None, Some, List, [], ◌∷◌, if◌then◌else◌, length, nat_le, nat_lt, refl, slice_get, sym, ap, ◌∙◌, arith, subst, inl, inr, ◌⊎◌, eq-eqb}
-use Rattle.std.proofs.lemmas.Bool.{and_from, and_parts, both_ways, eqb-true, false_from_ne_true, leb-true, ltb-true, not_from_false, not_from_true, or_cases}
+use Rattle.std.proofs.Common.{◌≡◌, ℕ, ◌<◌, ◌≤◌, ◌==◌, Bool, true, false, ◌&&◌, ◌||◌, Option, None, Some, List, [], ◌∷◌, if◌then◌else◌, length, nat_le, nat_lt, refl, slice_get, sym, ap, ◌∙◌, arith, subst, inl, inr, ◌⊎◌}
+use Rattle.std.proofs.lemmas.Bool.{and_parts, both_ways, eqb-true, false_from_ne_true, leb-true, ltb-true, or_cases}
 use Rattle.std.specs.List.{cons_option, filter_map, list_all, list_any}
 use Rattle.std.specs.Option.{is_some}
 use Rattle.x86_subset.specs.Instr.{is_reading}
 use Rattle.x86_subset.specs.Test.{LitmusTest}
 use Rattle.x86_subset.specs.declared.instr.Instr.{Instr}
-use Rattle.tso_machine.specs.Event.{Event, event_location, is_drain}
+use Rattle.tso_machine.specs.Event.{Event, event_location}
 use Rattle.tso_machine.specs.Run.{IsRunOf}
 use Rattle.tso_machine.specs.Source.{source_of}
 use Rattle.seq_conv.specs.Numbers.{AreOf, Table, stores_at}
-use Rattle.seq_conv.specs.Sequence.{Origin, Site, action_at, site_location, stores_of}
-use Rattle.perp_base.proofs.Lists.{Among, each_among, each_weaker, find_split, take_while_split}
-use Rattle.tso_machine.proofs.ReadEvents.{ReadAt, read_at}
+use Rattle.seq_conv.specs.Sequence.{Site, action_at, site_location, stores_of}
+use Rattle.perp_base.proofs.Lists.{Among, each_among}
+use Rattle.tso_machine.proofs.ReadEvents.{read_at}
 use Rattle.seq_conv.proofs.Stores.{IsStoreOf, location_at_store, stores_are}
 use Rattle.profile_check.specs.Profile.{CheckedTest, IsChecked}
 use Rattle.profile_check.specs.declared.kind.AtomKind.{AtomKind}
 use Rattle.profile_check.specs.declared.kind.AtomKind.TheVariants.{Rf, Fr, Exact}
 use Rattle.profile_check.proofs.KindLemmas.{Tells, TellsRf, named_by}
 use Rattle.outcome_conv.specs.Hits.{IsFrame}
-use Rattle.outcome_conv.specs.Holds.{event_at, events_before, holds_in, is_action_event, is_at_least, iteration_in, location_read, reading_site, source_at}
+use Rattle.outcome_conv.specs.Holds.{holds_in, is_action_event, is_at_least, iteration_in, location_read, reading_site, source_at}
 use Rattle.outcome_conv.proofs.Agree.{location_is, site_is, thread_below}
 use Rattle.verdict.specs.declared.node.Node.{Node}
 use Rattle.verdict.specs.Edges.{kinds_in, node}
 use Rattle.verdict.proofs.Finding.{stores_here}
-use Rattle.verdict.proofs.Forward.{kinds_tell}
+use Rattle.verdict.proofs.Forward.{kinds_tell, each_all}
 use Rattle.verdict.proofs.InOrder.{early_at}
-use Rattle.verdict.proofs.Moments.{any_found}
 use Rattle.decision.specs.declared.hidden.HiddenRead.{HiddenRead}
 use Rattle.decision.specs.Hidden.{hidden_by, hidden_from, hidden_in, is_hidden, is_hidden_store, is_own_between}
 use Rattle.decision.specs.Decisions.{NeverHolds}
 use Rattle.decision.specs.Laws.{HiddenReadsNeverHold}
-use Rattle.decision.proofs.Finish.{each_all}
-use Rattle.decision.proofs.OwnReads.{FromBuffer, FromMemory, Hider, OwnRead, hiding_stores, never_read, own, own_order, taken_from}
-
--- what an atom says of its read's source
-record AtLeast (store : Site) (m : ℕ) (source : Option Origin) : Type 0 where
-  iteration : ℕ
-  is : source ≡ Some (own store.thread store.place iteration)
-  late : m ≤ iteration
-
-at_least : (store : Site) (m : ℕ) (source : Option Origin) → is_at_least store m source ≡ true → AtLeast store m source
-at_least store m None h = cc
-at_least store m (Some o) h =
-    let p = and_parts ((o.thread == store.thread) && (o.place == store.place)) (nat_le m o.iteration) h in
-    let q = and_parts (o.thread == store.thread) (o.place == store.place) p.0 in
-    record {
-      iteration = o.iteration;
-      is = (let t : o.thread ≡ store.thread = eqb-true o.thread store.thread q.0 in let l : o.place ≡
-          store.place = eqb-true o.place store.place q.1 in rw (← t, ← l) refl);
-      late = leb-true m o.iteration p.1;
-    }
-
-is_reader : (t q i : ℕ) (d : Event) → is_drain d ≡ false → d.thread ≡ t → d.place ≡ q → d.iteration ≡ i
-    → is_action_event (record { thread = t; place = q }) i d ≡ true
-is_reader t q i d h et eq ei =
-    and_from (not (is_drain d) && (d.thread == t) && (d.place == q)) (d.iteration == i)
-    (and_from (not (is_drain d) && (d.thread == t)) (d.place == q)
-    (and_from (not (is_drain d)) (d.thread == t) (not_from_false (is_drain d) h) (eq-eqb d.thread t et))
-    (eq-eqb d.place q eq))
-    (eq-eqb d.iteration i ei)
-
--- the source of a read is that of its event
-source_is : (test : LitmusTest) (run : List Event) (t q i : ℕ) (action : Instr) (e : ReadAt test run t q i action)
-    → source_at test (record { thread = t; place = q }) i run ≡ source_of test e.event e.before
-source_is test run t q i action e =
-    let is : Event → Bool = is_action_event (record { thread = t; place = q }) i in
-    let passes = is_reader t q i e.event e.no_drain e.thread e.place e.iteration in
-    let here : event_at (record { thread = t; place = q }) i run ≡ Some e.event =
-    ap (event_at (record { thread = t; place = q }) i) e.whole ∙ find_split is e.before e.event e.after e.none_before
-    passes in
-    let front : events_before (record { thread = t; place = q }) i run ≡ e.before =
-    ap (events_before (record { thread = t; place = q }) i) e.whole
-    ∙ take_while_split (λ d. not (is d)) e.before e.event e.after
-    (each_weaker (λ d. is d ≡ false) (λ d. not (is d) ≡ true) (λ d k. not_from_false (is d) k) e.before e.none_before)
-    (not_from_true (is e.event) passes) in
-    rw (here, front) refl
+use Rattle.verdict.proofs.EventKinds.{stores_storing}
+use Rattle.verdict.proofs.Finds.{any_found}
+use Rattle.verdict.proofs.ReadEdges.{is_action_from, source_first}
+use Rattle.verdict.proofs.Taken.{FromBuffer, FromMemory, at_least, taken_from}
+use Rattle.decision.proofs.OwnReads.{Hider, OwnRead, never_read, own, own_order}
 
 -- a read that takes from the store at place p in iteration j
 own_read : (test : LitmusTest) (n : ℕ) (run : List Event) (t q p i j : ℕ) (action : Instr) → IsRunOf test n run
@@ -86,6 +45,10 @@ own_read : (test : LitmusTest) (n : ℕ) (run : List Event) (t q p i j : ℕ) (a
 own_read test n run t q p i j action r below early stands reading source =
     let e = read_at test n run t q i action (r.performs t below) early stands reading in
     let loc : event_location test e.event ≡ named_by action = rw (e.thread, e.place, stands) refl in
+    let here : source_at test (record { thread = t; place = q }) i run ≡ source_of test e.event e.before =
+    ap (source_at test (record { thread = t; place = q }) i) e.whole
+    ∙ source_first test e.before e.event e.after (record { thread = t; place = q }) i e.none_before
+    (is_action_from (record { thread = t; place = q }) i e.event e.no_drain e.thread e.place e.iteration) in
     let C : ℕ → ℕ → Type 0 =
     λ u y. FromBuffer test u y e.before (own t p j) ⊎ FromMemory test u y e.event.kind e.before (own t p j) in
     let D : ℕ → Type 0 = λ u. C u (named_by action) in
@@ -105,10 +68,10 @@ own_read test n run t q p i j action r below early stands reading source =
       gives = e.gives;
       first = λ d. both_ways (is_action_event (record { thread = t; place = q }) i d.event)
           (each_among (λ c. is_action_event (record { thread = t; place = q }) i c ≡ false) d.event e.before d.among
-          e.none_before) (is_reader t q i d.event d.no_drain d.thread d.place d.iteration);
+          e.none_before)
+          (is_action_from (record { thread = t; place = q }) i d.event d.is d.thread d.place d.iteration);
       taken = subst D e.thread (subst (C e.event.thread) loc
-          (taken_from test e.event e.before (own t p j) e.event.kind (sym (source_is test run t q i action e)
-          ∙ source)));
+          (taken_from test e.event e.before (own t p j) e.event.kind (sym here ∙ source)));
     }
 
 -- a store of the thread between them
@@ -126,7 +89,7 @@ hider_of test t p q x a h =
     record {
       stored = first.action;
       stands = first.stands;
-      storing = hiding_stores x first.action first.stores;
+      storing = stores_storing x first.action first.stores;
       place = s.place;
       action = second.action;
       there = (let P : ℕ → Type 0 = λ u. action_at test (record { thread = u; place = s.place }) ≡ Some

@@ -28,11 +28,11 @@ use Rattle.outcome_conv.proofs.Agree.{agrees_by, thread_below}
 use Rattle.run_witness.proofs.Fronts.{column_below}
 use Rattle.run_witness.proofs.Stands.{mark_at}
 use Rattle.verdict.specs.Edges.{kinds_in}
-use Rattle.verdict.proofs.Forward.{kinds_tell}
+use Rattle.verdict.proofs.Forward.{each_all, kinds_tell}
 use Rattle.decision.specs.Laws.{EachLengthHasAHit}
 use Rattle.decision.specs.Shown.{Shows, zeros}
 use Rattle.decision.proofs.Deciding.{zeros_frame}
-use Rattle.decision.proofs.Finish.{all_from, each_all, zero_at}
+use Rattle.decision.proofs.Finish.{all_from, zero_at}
 use Rattle.decision.proofs.Hits.{any_range, holds_is_hit}
 
 -- Events after events.

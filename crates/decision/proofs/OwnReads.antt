@@ -1,30 +1,27 @@
 -- A read that takes from an own store, of its iteration or a later one, takes from the newest that stands before it.
-use Rattle.std.proofs.Common.{◌≡◌, ℕ, ◌<◌, ◌≤◌, ◌==◌, Bool, true, false, not, ◌&&◌, Option, None, Some, List, [], ◌∷◌, ◌++◌, map, filter, length, refl, sym, ap, ◌∙◌, arith, subst, inl, inr, ◌⊎◌, append_assoc, eq-eqb, option_map}
+use Rattle.std.proofs.Common.{◌≡◌, ℕ, ◌<◌, ◌≤◌, ◌==◌, Bool, true, false, not, ◌&&◌, Option, None, Some, List, [], ◌∷◌, ◌++◌, map, filter, length, refl, sym, ap, ◌∙◌, arith, subst, inl, inr, ◌⊎◌, append_assoc, eq-eqb}
 use Rattle.std.proofs.lemmas.List.Elements.{filter-append}
-use Rattle.std.proofs.lemmas.Bool.{and_from, and_parts, both_ways, eqb-true, false_from_ne_true, not_from_false, not-true}
+use Rattle.std.proofs.lemmas.Bool.{and_from, and_parts, both_ways, eqb-true, false_from_ne_true, not_from_false}
 use Rattle.std.specs.List.{AllZip, AllByRecursion as Each, list_any}
-use Rattle.std.specs.Option.{option_or}
 use Rattle.x86_subset.specs.Instr.{is_store_to}
 use Rattle.x86_subset.specs.Test.{LitmusTest, body_of}
 use Rattle.x86_subset.specs.declared.instr.Instr.{Instr}
-use Rattle.x86_subset.specs.declared.instr.Instr.TheVariants.{Store, Load, Fence, Exchange}
-use Rattle.tso_machine.specs.Event.{Event, Kind, Push, Drain, Read, Fenced, Exchanged, event_location, is_drain, is_drain_kind}
+use Rattle.tso_machine.specs.Event.{Event, event_location, is_drain}
 use Rattle.tso_machine.specs.Machine.{Write, write_of}
 use Rattle.tso_machine.specs.Part.{Fills, Gives, Performs, part_of, slots_of_loop}
 use Rattle.tso_machine.specs.Run.{IsRunOf}
 use Rattle.seq_conv.specs.Sequence.{Origin, action_at, site_location}
 use Rattle.perp_base.specs.Last.{last_that}
-use Rattle.tso_machine.specs.Source.{is_memory_kind, is_memory_write, is_pending, is_push, is_push_kind, origin_of, same_store, source_as}
-use Rattle.perp_base.proofs.Lists.{Among, Apart, among_append_left, apart_across, apart_filter, apart_zip, each_from_among, last-append, last_found}
+use Rattle.tso_machine.specs.Source.{is_memory_kind, is_memory_write, is_pending, is_push, is_push_kind, same_store}
+use Rattle.perp_base.proofs.Lists.{Among, Apart, among_append_left, apart_across, apart_filter, apart_zip, last-append, last_found}
 use Rattle.tso_machine.proofs.Parts.{at_part, deeds, fed_is, loop_apart, queue_whole, same_slot}
-use Rattle.tso_machine.proofs.Runs.{comes_out, comes_out_kind, goes_in}
-use Rattle.verdict.specs.Edges.{is_barrier}
-use Rattle.verdict.proofs.Moments.{HasDeed, HasWrite, IsEarlier, any_among, any_found, deed_gives, deed_order, drained_push, is_store, is_storing, more_deed, store_before_barrier, write_order}
+use Rattle.tso_machine.proofs.Runs.{comes_out, goes_in}
+use Rattle.verdict.proofs.EventKinds.{GivesKind, drain_memory, gives_kind, is_store, is_storing, memory_out, push_no_drain, stores_storing}
+use Rattle.verdict.proofs.Deeds.{HasDeed, HasWrite, IsEarlier, deed_gives, deed_order, drained_push, has_in, run_cut, store_before_barrier, write_order}
+use Rattle.verdict.proofs.Taken.{FromBuffer, FromMemory, Pending, among_self, pending_tells}
+use Rattle.verdict.proofs.Finds.{any_found, any_among}
 
 -- Lists.
-
-among_self : {X : Type 0} (xs : List X) → Each (λ x. Among x xs) xs
-among_self xs = each_from_among (λ x. Among x xs) xs (λ x a. a)
 
 -- the last that passes is one that is known to pass, or stands after it
 record LastFrom {X : Type 0} (p : X → Bool) (xs : List X) (y : X) (cs : List X) : Type 0 where
@@ -106,74 +103,7 @@ turn a b p i =
     and_from (a.place == b.place) (a.iteration == b.iteration) (eq-eqb a.place b.place p)
     (eq-eqb a.iteration b.iteration i)
 
--- Where a read takes its value from.
-
--- the last own Push that waits
-pub record FromBuffer (test : LitmusTest) (t x : ℕ) (before : List Event) (o : Origin) : Type 0 where
-  pub event : Event
-  pub last : last_that (is_pending test t x before) before ≡ Some event
-  pub origin : origin_of event ≡ o
-
--- the last write to memory, where none waits or the read is an exchange
-pub record FromMemory (test : LitmusTest) (t x : ℕ) (k : Kind) (before : List Event) (o : Origin) : Type 0 where
-  pub event : Event
-  pub last : last_that (is_memory_write test x) before ≡ Some event
-  pub origin : origin_of event ≡ o
-  pub none : (last_that (is_pending test t x before) before ≡ None) ⊎ (is_memory_kind k ≡ true)
-
-memory_case : (test : LitmusTest) (t x : ℕ) (k : Kind) (before : List Event) (o : Origin) (m : Option Event)
-    → last_that (is_memory_write test x) before ≡ m → option_map origin_of m ≡ Some o
-    → (last_that (is_pending test t x before) before ≡ None) ⊎ (is_memory_kind k ≡ true)
-    → FromMemory test t x k before o
-memory_case test t x k before o None e h none = cc
-memory_case test t x k before o (Some d) e h none =
-    record { event = d; last = e; origin = (let s : origin_of d ≡ o = cc in s); none = none }
-
-read_case : (test : LitmusTest) (t x : ℕ) (k : Kind) (before : List Event) (o : Origin) (p : Option Event)
-    → last_that (is_pending test t x before) before ≡ p
-    → option_map origin_of (option_or p (last_that (is_memory_write test x) before)) ≡ Some o
-    → FromBuffer test t x before o ⊎ FromMemory test t x k before o
-read_case test t x k before o None e h =
-    inr (memory_case test t x k before o (last_that (is_memory_write test x) before) refl h (inl e))
-read_case test t x k before o (Some d) e h =
-    inl (record { event = d; last = e; origin = (let s : origin_of d ≡ o = cc in s) })
-
-pub taken_from : (test : LitmusTest) (e : Event) (before : List Event) (o : Origin) (k : Kind)
-    → source_as k test e before ≡ Some o
-    → FromBuffer test e.thread (event_location test e) before o ⊎ FromMemory test e.thread (event_location test e) k
-    before o
-taken_from test e before o Push h = cc
-taken_from test e before o Drain h = cc
-taken_from test e before o (Read v) h =
-    let t = e.thread in
-    let x = event_location test e in
-    read_case test t x (Read v) before o (last_that (is_pending test t x before) before) refl h
-taken_from test e before o Fenced h = cc
-taken_from test e before o (Exchanged v) h =
-    let t = e.thread in
-    let x = event_location test e in
-    inr (memory_case test t x (Exchanged v) before o (last_that (is_memory_write test x) before) refl h (inr refl))
-
--- what is pending
-record Pending (test : LitmusTest) (t x : ℕ) (before : List Event) (d : Event) : Type 0 where
-  push : is_push d ≡ true
-  thread : d.thread ≡ t
-  location : event_location test d ≡ x
-  waits : list_any (λ c. is_drain c && same_store c d) before ≡ false
-
-pending_tells : (test : LitmusTest) (t x : ℕ) (before : List Event) (d : Event) → is_pending test t x before d ≡ true
-    → Pending test t x before d
-pending_tells test t x before d h =
-    let drained = list_any (λ c. is_drain c && same_store c d) before in
-    let a = and_parts ((is_push d && (d.thread == t)) && (event_location test d == x)) (not drained) h in
-    let b = and_parts (is_push d && (d.thread == t)) (event_location test d == x) a.0 in
-    let c = and_parts (is_push d) (d.thread == t) b.0 in
-    record {
-      push = c.0;
-      thread = eqb-true d.thread t c.1;
-      location = eqb-true (event_location test d) x b.1;
-      waits = not-true drained a.1;
-    }
+-- What waits.
 
 pending_from : (test : LitmusTest) (t x : ℕ) (before : List Event) (d : Event) → Pending test t x before d
     → is_pending test t x before d ≡ true
@@ -185,32 +115,15 @@ pending_from test t x before d p =
     (eq-eqb (event_location test d) x p.location))
     (not_from_false drained p.waits)
 
-push_kind_no_drain : (k : Kind) → is_push_kind k ≡ true → is_drain_kind k ≡ false
-push_kind_no_drain Push h = refl
-push_kind_no_drain Drain h = cc
-push_kind_no_drain (Read v) h = cc
-push_kind_no_drain Fenced h = cc
-push_kind_no_drain (Exchanged v) h = cc
-
-drain_in_memory : (k : Kind) → is_drain_kind k ≡ true → is_memory_kind k ≡ true
-drain_in_memory Push h = cc
-drain_in_memory Drain h = refl
-drain_in_memory (Read v) h = cc
-drain_in_memory Fenced h = cc
-drain_in_memory (Exchanged v) h = cc
-
 -- the deed of what a read takes stands before it
 deed_of_write : (test : LitmusTest) (n : ℕ) (before rest : List Event) (d : Event) → IsRunOf test n (before ++ rest)
     → Among d before → is_memory_kind d.kind ≡ true → HasDeed d.thread d.place d.iteration before
 deed_of_write test n before rest d r a m = go (is_drain d) refl
   where
     go : (b : Bool) → is_drain d ≡ b → HasDeed d.thread d.place d.iteration before
-    go false h = record { event = d; among = a; thread = refl; place = refl; iteration = refl; no_drain = h }
+    go false h = record { event = d; among = a; thread = refl; place = refl; iteration = refl; is = h }
     go true h =
-        let cut : before ++ rest ≡ a.front ++ d ∷ (a.rest ++ rest) =
-        ap (λ l. l ++ rest) a.whole ∙ append_assoc a.front (d ∷ a.rest) rest in
-        let P : List Event → Type 0 = λ l. IsRunOf test n l in
-        let q = drained_push test a.front d (a.rest ++ rest) ((subst P cut r).legal.steps) h in
+        let q = drained_push test a.front d (a.rest ++ rest) (run_cut test n before rest d a r).legal.steps h in
         let y : HasDeed d.thread d.place d.iteration a.front =
         record {
           event = q.event;
@@ -218,10 +131,9 @@ deed_of_write test n before rest d r a m = go (is_drain d) refl
           thread = q.thread;
           place = q.place;
           iteration = q.iteration;
-          no_drain = push_kind_no_drain q.event.kind q.pushes;
+          is = push_no_drain q.event.kind q.is;
         } in
-        subst (HasDeed d.thread d.place d.iteration) (sym a.whole)
-        (more_deed d.thread d.place d.iteration a.front (d ∷ a.rest) y)
+        has_in d before a y
 
 -- no two events of one turn that pass, one after the other
 twice : (q : Event → Bool) (t : ℕ) (fs : List Event) (y : Event) (cs after : List Event) (c d : Event)
@@ -275,7 +187,7 @@ own_deed test n t x p q i j r = go r.taken
           thread = ap (λ (o : Origin). o.thread) b.origin;
           place = ap (λ (o : Origin). o.place) b.origin;
           iteration = ap (λ (o : Origin). o.iteration) b.origin;
-          no_drain = push_kind_no_drain d.kind ((pending_tells test t x r.before d f.0).push);
+          is = push_no_drain d.kind ((pending_tells test t x r.before d f.0).push);
         }
     go (inr m) =
         let d = m.event in
@@ -287,10 +199,7 @@ own_deed test n t x p q i j r = go r.taken
 -- the run, cut at an event before the read
 cut_at : (test : LitmusTest) (n t x p q i j : ℕ) (r : OwnRead test n t x p q i j) (d : Event) (a : Among d r.before)
     → IsRunOf test n (a.front ++ d ∷ (a.rest ++ r.event ∷ r.after))
-cut_at test n t x p q i j r d a =
-    let cut : r.before ++ r.event ∷ r.after ≡ a.front ++ d ∷ (a.rest ++ r.event ∷ r.after) =
-    ap (λ l. l ++ r.event ∷ r.after) a.whole ∙ append_assoc a.front (d ∷ a.rest) (r.event ∷ r.after) in
-    subst (IsRunOf test n) cut r.legal
+cut_at test n t x p q i j r d a = run_cut test n r.before (r.event ∷ r.after) d a r.legal
 
 -- a store of the read's iteration or of a later one is of that iteration, and stands before the read
 pub own_order : (test : LitmusTest) (n t x p q i j : ℕ) (r : OwnRead test n t x p q i j) → i ≤ j → (i ≡ j) × (p < q)
@@ -304,8 +213,8 @@ own_order test n t x p q i j r l =
     late e =
         let y =
         deed_order test n d.among.front d.event (d.among.rest ++ r.event ∷ r.after) t q i r.action
-        (cut_at test n t x p q i j r d.event d.among) r.below d.thread d.no_drain e r.stands r.early in
-        r.first (subst (HasDeed t q i) (sym d.among.whole) (more_deed t q i d.among.front (d.event ∷ d.among.rest) y))
+        (cut_at test n t x p q i j r d.event d.among) r.below d.thread d.is e r.stands r.early in
+        r.first (has_in d.event r.before d.among y)
 
     same : i ≡ j → (q < p) ⊎ (q ≡ p) → ⊥
     same e (inl h) =
@@ -320,7 +229,7 @@ own_order test n t x p q i j r l =
           thread = d.thread;
           place = d.place ∙ sym h;
           iteration = d.iteration ∙ sym e;
-          no_drain = d.no_drain;
+          is = d.is;
         })
 
     go : (i < j) ⊎ (i ≡ j) → (p < q) ⊎ (q ≤ p) → (i ≡ j) × (p < q)
@@ -345,48 +254,6 @@ pub record Hider (test : LitmusTest) (t x p q : ℕ) : Type 0 where
   pub later : p < place
   pub earlier : place < q
 
-push_store : (a : Instr) (k : Kind) → Gives a k → is_push_kind k ≡ true → is_store a ≡ true
-push_store (Store loc written) Push g h = refl
-push_store (Load reg loc) (Read v) g h = cc
-push_store Fence Fenced g h = cc
-push_store (Exchange loc written reg) (Exchanged v) g h = cc
-push_store _ _ g h = absurd g
-
-memory_no_store : (a : Instr) (k : Kind) → Gives a k → is_memory_kind k ≡ true → is_store a ≡ false
-memory_no_store (Store loc written) Push g h = cc
-memory_no_store (Load reg loc) (Read v) g h = refl
-memory_no_store Fence Fenced g h = refl
-memory_no_store (Exchange loc written reg) (Exchanged v) g h = refl
-memory_no_store _ _ g h = absurd g
-
-store_kinds : (x : ℕ) (a : Instr) (k : Kind) → Gives a k → is_store_to x a ≡ true
-    → (is_push_kind k ≡ true) ⊎ (is_memory_kind k ≡ true)
-store_kinds x (Store loc written) Push g h = inl refl
-store_kinds x (Load reg loc) (Read v) g h = cc
-store_kinds x Fence Fenced g h = cc
-store_kinds x (Exchange loc written reg) (Exchanged v) g h = inr refl
-store_kinds x _ _ g h = absurd g
-
-memory_comes_out : (k : Kind) → is_memory_kind k ≡ true → comes_out_kind true k ≡ true
-memory_comes_out Push h = cc
-memory_comes_out Drain h = refl
-memory_comes_out (Read v) h = cc
-memory_comes_out Fenced h = cc
-memory_comes_out (Exchanged v) h = refl
-
-pub hiding_stores : (x : ℕ) (a : Instr) → is_store_to x a ≡ true → is_storing a ≡ true
-hiding_stores x (Store loc written) h = refl
-hiding_stores x (Load reg loc) h = cc
-hiding_stores x Fence h = cc
-hiding_stores x (Exchange loc written reg) h = refl
-
-memory_barrier : (a : Instr) (k : Kind) → Gives a k → is_memory_kind k ≡ true → is_barrier a ≡ true
-memory_barrier (Store loc written) Push g h = cc
-memory_barrier (Load reg loc) (Read v) g h = cc
-memory_barrier Fence Fenced g h = refl
-memory_barrier (Exchange loc written reg) (Exchanged v) g h = refl
-memory_barrier _ _ g h = absurd g
-
 -- the later store is not in memory: else the named one went before it
 not_written : (test : LitmusTest) (n t x p q i : ℕ) (r : OwnRead test n t x p q i i) (h : Hider test t x p q)
     → HasWrite t h.place i r.before → ⊥
@@ -399,7 +266,7 @@ not_written test n t x p q i r h w = go r.taken
     d =
         let l : p < h.place = h.later in
         write_order test n a.front w.event (a.rest ++ r.event ∷ r.after) t p i h.stored
-        (cut_at test n t x p q i i r w.event a) r.below w.thread w.writes
+        (cut_at test n t x p q i i r w.event a) r.below w.thread w.is
         (inr (
           sym w.iteration,
           (let k : w.event.place ≡ h.place = w.place in let g : p < w.event.place = omega
@@ -423,12 +290,12 @@ not_written test n t x p q i r h w = go r.taken
         let run = r.before ++ r.event ∷ r.after in
         let e_gives =
         deed_gives test n run e t p h.stored r.legal (among_append_left e r.before (r.event ∷ r.after) ea)
-        (push_kind_no_drain e.kind push) et ep h.stands in
+        (push_no_drain e.kind push) et ep h.stands in
         let d_gives =
         deed_gives test n run d.event t p h.stored r.legal
         (among_append_left d.event r.before (r.event ∷ r.after) before_read) k d.thread d.place h.stands in
-        both_ways (is_store h.stored) (memory_no_store h.stored d.event.kind d_gives d.writes)
-        (push_store h.stored e.kind e_gives push)
+        both_ways (is_store h.stored) ((gives_kind h.stored d.event.kind d_gives).memory d.is).0
+        (sym (gives_kind h.stored e.kind e_gives).push ∙ push)
 
     go : FromBuffer test t x r.before (own t p i) ⊎ FromMemory test t x r.event.kind r.before (own t p i) → ⊥
     go (inl b) =
@@ -443,7 +310,7 @@ not_written test n t x p q i r h w = go r.taken
         let loc : event_location test w.event ≡ x = rw (w.thread, w.place) (h.location) in
         let l =
         last_from writes a.front w.event a.rest
-        (and_from (is_memory_kind w.event.kind) (event_location test w.event == x) w.writes
+        (and_from (is_memory_kind w.event.kind) (event_location test w.event == x) w.is
         (eq-eqb (event_location test w.event) x loc)) in
         let one : Some l.last ≡ Some m.event = sym l.is ∙ sym (ap (last_that writes) a.whole) ∙ m.last in
         let same : l.last ≡ m.event = cc in
@@ -464,15 +331,15 @@ not_written test n t x p q i r h w = go r.taken
             twice (comes_out true) t a.front w.event a.rest (r.event ∷ r.after) d.event m.event
             (subst P a.whole (writes_turn test n t (r.before ++ r.event ∷ r.after) r.legal r.below)) d.among
             (subst (λ v. Among v a.rest) s z)
-            d.thread (ap (λ (o : Origin). o.thread) m.origin) (memory_comes_out d.event.kind d.writes)
-            (memory_comes_out m.event.kind k)
+            d.thread (ap (λ (o : Origin). o.thread) m.origin) (memory_out d.event.kind d.is)
+            (memory_out m.event.kind k)
             (d.place ∙ sym (ap (λ (o : Origin). o.place) m.origin))
             (d.iteration ∙ sym (ap (λ (o : Origin). o.iteration) m.origin))
 
 -- nor does it wait: else it would be read
 not_waiting : (test : LitmusTest) (n t x p q i : ℕ) (r : OwnRead test n t x p q i i) (h : Hider test t x p q)
     → (HasWrite t h.place i r.before → ⊥) → ⊥
-not_waiting test n t x p q i r h none = by_kind (store_kinds x h.action f.event.kind f_gives h.hides)
+not_waiting test n t x p q i r h none = by_kind (is_store h.action) refl
   where
     run : List Event
     run = r.before ++ r.event ∷ r.after
@@ -494,7 +361,10 @@ not_waiting test n t x p q i r h none = by_kind (store_kinds x h.action f.event.
     f_gives : Gives h.action f.event.kind
     f_gives =
         deed_gives test n run f.event t h.place h.action r.legal
-        (among_append_left f.event r.before (r.event ∷ r.after) f.among) f.no_drain f.thread f.place h.there
+        (among_append_left f.event r.before (r.event ∷ r.after) f.among) f.is f.thread f.place h.there
+
+    f_kind : GivesKind h.action f.event.kind
+    f_kind = gives_kind h.action f.event.kind f_gives
 
     a : Among f.event r.before
     a = f.among
@@ -514,7 +384,7 @@ not_waiting test n t x p q i r h none = by_kind (store_kinds x h.action f.event.
           thread = eqb-true c.thread f.event.thread o.0 ∙ f.thread;
           place = eqb-true c.place f.event.place o.1 ∙ f.place;
           iteration = eqb-true c.iteration f.event.iteration v.1 ∙ f.iteration;
-          writes = drain_in_memory c.kind u.0;
+          is = drain_memory c.kind u.0;
         }))
 
     behind : (b : FromBuffer test t x r.before (own t p i)) → {last : Event} → last ≡ b.event
@@ -528,7 +398,7 @@ not_waiting test n t x p q i r h none = by_kind (store_kinds x h.action f.event.
         let l : p < h.place = h.later in
         let d =
         deed_order test n a.front f.event (a.rest ++ r.event ∷ r.after) t p i h.stored
-        (cut_at test n t x p q i i r f.event a) r.below f.thread f.no_drain
+        (cut_at test n t x p q i i r f.event a) r.below f.thread f.is
         (inr (
           sym f.iteration,
           (let k : f.event.place ≡ h.place = f.place in let g : p < f.event.place = omega
@@ -541,8 +411,8 @@ not_waiting test n t x p q i r h none = by_kind (store_kinds x h.action f.event.
         twice (λ c. not (is_drain c)) t a.front f.event a.rest (r.event ∷ r.after) d.event e
         (subst P a.whole (deeds_turn test n t run (r.legal.performs t r.below))) d.among
         (subst (λ v. Among v a.rest) s z)
-        d.thread (ap (λ (o : Origin). o.thread) b.origin) (not_from_false (is_drain d.event) d.no_drain)
-        (not_from_false (is_drain e) (push_kind_no_drain e.kind ((pending_tells test t x r.before e passes).push)))
+        d.thread (ap (λ (o : Origin). o.thread) b.origin) (not_from_false (is_drain d.event) d.is)
+        (not_from_false (is_drain e) (push_no_drain e.kind ((pending_tells test t x r.before e passes).push)))
         (d.place ∙ sym (ap (λ (o : Origin). o.place) b.origin))
         (d.iteration ∙ sym (ap (λ (o : Origin). o.iteration) b.origin))
 
@@ -569,19 +439,19 @@ not_waiting test n t x p q i r h none = by_kind (store_kinds x h.action f.event.
             cc
         no_buffer k (inr m) =
             none (store_before_barrier test n r.before r.event r.after t h.place i r.action h.action r.legal r.below
-            r.thread r.gives (memory_barrier r.action r.event.kind r.gives m) earlier h.there
-            (push_store h.action f.event.kind f_gives k) r.early)
+            r.thread r.gives ((gives_kind r.action r.event.kind r.gives).memory m).1 earlier h.there
+            (sym f_kind.push ∙ k) r.early)
 
-    by_kind : (is_push_kind f.event.kind ≡ true) ⊎ (is_memory_kind f.event.kind ≡ true) → ⊥
-    by_kind (inl k) = go k r.taken
-    by_kind (inr k) =
+    by_kind : (b : Bool) → is_store h.action ≡ b → ⊥
+    by_kind true k = go (f_kind.push ∙ k) r.taken
+    by_kind false k =
         none (record {
           event = f.event;
           among = f.among;
           thread = f.thread;
           place = f.place;
           iteration = f.iteration;
-          writes = k;
+          is = f_kind.storing (stores_storing x h.action h.hides) k;
         })
 
 -- so the named store is never read

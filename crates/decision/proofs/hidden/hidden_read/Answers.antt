@@ -10,10 +10,8 @@ first c =
     let checked = c.args.checked.now in
     let a = from_of checked.test.ends c.args.conjunction in
     let b = to_of checked.test.ends c.args.conjunction in
-    let from : c.conjunction-span.result.from ≡ a = c.conjunction-span.ensures.from
-    ∙ ap (λ t. from_of t.ends c.args.conjunction) c.test-test.ensures.is in
-    let to : c.conjunction-span.result.to ≡ b = c.conjunction-span.ensures.to
-    ∙ ap (λ t. to_of t.ends c.args.conjunction) c.test-test.ensures.is in
+    let from : c.conjunction-span.result.from ≡ a = rw c.test-test.ensures.is at c.conjunction-span.ensures.from in
+    let to : c.conjunction-span.result.to ≡ b = rw c.test-test.ensures.is at c.conjunction-span.ensures.to in
     let start = c.loop-i.auto.i in
     let here = c.loop-i-test.true in
     let low : a ≤ c.loop-i.i = omega arith in
@@ -34,8 +32,7 @@ pub loop-i-preserved : goal.loop-i-preserved
 loop-i-preserved c =
     let checked = c.args.checked.now in
     let a = from_of checked.test.ends c.args.conjunction in
-    let from : c.conjunction-span.result.from ≡ a = c.conjunction-span.ensures.from
-    ∙ ap (λ t. from_of t.ends c.args.conjunction) c.test-test.ensures.is in
+    let from : c.conjunction-span.result.from ≡ a = rw c.test-test.ensures.is at c.conjunction-span.ensures.from in
     let start = c.loop-i.auto.i in
     let low : a ≤ c.loop-i.i = omega arith in
     let is = sym (ap (λ t. hidden_by t c.kind.result) c.test-test.ensures.is) ∙ sym c.hidden_by.ensures
