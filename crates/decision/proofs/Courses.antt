@@ -24,7 +24,6 @@ use Rattle.run_witness.specs.Marks.{Mark, is_storing, loop_of, waiting}
 use Rattle.run_witness.specs.Stage.{slot_write}
 use Rattle.run_judge.proofs.Shown.{newest_push}
 use Rattle.run_witness.proofs.Begun.{after_push, memory_after_event}
-use Rattle.seq_conv.proofs.Numbering.{body_short as body_few}
 use Rattle.run_witness.proofs.Reading.{store_stores}
 use Rattle.run_witness.proofs.Slots.{loop_length, not_store_to, waiting_none, waiting_push}
 use Rattle.run_witness.proofs.Stands.{fresh, stores_at}
@@ -151,13 +150,14 @@ row_place test table t p same l k =
     (omega arith, omega arith)
 
 -- no number is large
-pub done_few : (test : LitmusTest) (kinds : List AtomKind) (ms : List Progress) (words : List ℕ) (events : List Event)
-    (t : ℕ) → IsTest test → IsKept test kinds ms words events
-    → ((marks_of ms t).done ≤ length (body_of test t)) × (length (body_of test t) ≤ 16)
-done_few test kinds ms words events t within st =
-    let w : (marks_of ms t).done ≤ length (loop_of test 1 t) = (st.stage.stands.own t).within in
-    let long = loop_length (body_of test t) 1 in
-    (omega arith, body_few test t within)
+pub done_here : (checked : CheckedTest) (c : ℕ) (course : Course) (t : ℕ) (p : Progress) → IsCourse checked c course
+    → mark_of p ≡ marks_of course.threads.items t → p.done ≤ length (body_of checked.test t)
+done_here checked c course t p st is =
+    let w : (marks_of course.threads.items t).done ≤ length (loop_of checked.test 1 t) =
+    (st.stage.stands.own t).within in
+    let long = loop_length (body_of checked.test t) 1 in
+    let d : p.done ≡ (marks_of course.threads.items t).done = ap (λ (m : Mark). m.done) is in
+    omega arith
 
 -- What holds a thread back.
 

@@ -17,7 +17,7 @@ use Rattle.perp_base.proofs.Lists.{Among, Apart, among_append_left, apart_across
 use Rattle.tso_machine.proofs.Parts.{at_part, deeds, fed_is, loop_apart, queue_whole, same_slot}
 use Rattle.tso_machine.proofs.Runs.{comes_out, goes_in}
 use Rattle.verdict.proofs.EventKinds.{GivesKind, drain_memory, gives_kind, is_store, is_storing, memory_out, push_no_drain, stores_storing}
-use Rattle.verdict.proofs.Deeds.{HasDeed, HasWrite, IsEarlier, deed_gives, deed_order, drained_push, has_in, run_cut, store_before_barrier, write_order}
+use Rattle.verdict.proofs.Deeds.{HasDeed, HasWrite, IsEarlier, deed_gives, deed_order, drained_push, has_also, has_in, run_cut, store_before_barrier, write_order}
 use Rattle.verdict.proofs.Taken.{FromBuffer, FromMemory, Pending, among_self, pending_tells}
 use Rattle.verdict.proofs.Finds.{any_found, any_among}
 
@@ -124,16 +124,7 @@ deed_of_write test n before rest d r a m = go (is_drain d) refl
     go false h = record { event = d; among = a; thread = refl; place = refl; iteration = refl; is = h }
     go true h =
         let q = drained_push test a.front d (a.rest ++ rest) (run_cut test n before rest d a r).legal.steps h in
-        let y : HasDeed d.thread d.place d.iteration a.front =
-        record {
-          event = q.event;
-          among = q.among;
-          thread = q.thread;
-          place = q.place;
-          iteration = q.iteration;
-          is = push_no_drain q.event.kind q.is;
-        } in
-        has_in d before a y
+        has_in d before a (has_also q (push_no_drain q.event.kind q.is))
 
 -- no two events of one turn that pass, one after the other
 twice : (q : Event → Bool) (t : ℕ) (fs : List Event) (y : Event) (cs after : List Event) (c d : Event)
@@ -444,15 +435,7 @@ not_waiting test n t x p q i r h none = by_kind (is_store h.action) refl
 
     by_kind : (b : Bool) → is_store h.action ≡ b → ⊥
     by_kind true k = go (f_kind.push ∙ k) r.taken
-    by_kind false k =
-        none (record {
-          event = f.event;
-          among = f.among;
-          thread = f.thread;
-          place = f.place;
-          iteration = f.iteration;
-          is = f_kind.storing (stores_storing x h.action h.hides) k;
-        })
+    by_kind false k = none (has_also f (f_kind.storing (stores_storing x h.action h.hides) k))
 
 -- so the named store is never read
 pub never_read : (test : LitmusTest) (n t x p q i : ℕ) → OwnRead test n t x p q i i → Hider test t x p q → ⊥

@@ -172,6 +172,17 @@ has_in y es a h = record {
   is = h.is;
 }
 
+pub has_also : {P Q : Event → Type 0} {t p i : ℕ} {es : List Event} → (h : HasEvent P t p i es) → Q h.event
+    → HasEvent Q t p i es
+has_also h q = record {
+  event = h.event;
+  among = h.among;
+  thread = h.thread;
+  place = h.place;
+  iteration = h.iteration;
+  is = q;
+}
+
 -- one that a filter keeps
 found_at : (P : Event → Type 0) (q : Event → Bool) → ((e : Event) → q e ≡ true → P e) → (t p i : ℕ) (es : List Event)
     → list_any (is_at p i) (filter q (part_of t es)) ≡ true → HasEvent P t p i es

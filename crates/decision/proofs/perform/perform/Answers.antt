@@ -3,34 +3,27 @@ use Rattle.std.proofs.lemmas.List.{map-append}
 use Rattle.x86_subset.specs.Test.{LitmusTest, body_of}
 use Rattle.seq_conv.specs.Sequence.{site_location}
 use Rattle.run_judge.specs.Judgement.{event_of}
-use Rattle.run_witness.specs.Marks.{Mark}
 use Rattle.run_witness.proofs.Courses.{loud_words, quiet_words}
+use Rattle.run_witness.proofs.Fronts.{body_few}
 use Rattle.verdict.specs.Edges.{kinds_in}
-use Rattle.decision.specs.Course.{mark_after, marks_of}
-use Rattle.decision.proofs.Courses.{course_step, done_few, step_less, value_written}
+use Rattle.decision.specs.Course.{mark_after}
+use Rattle.decision.proofs.Courses.{course_step, done_here, step_less, value_written}
 use Rattle.decision.proofs.perform.perform.Goals as goal
 
 pub progress_after-own-requires-clause-done : goal.progress_after-own-requires-clause-done
 progress_after-own-requires-clause-done c =
     let checked = c.args.checked.now in
-    let course = c.args.course.now in
     let t = c.args.event.thread in
-    let few = done_few checked.test (kinds_in checked c.args.conjunction) course.threads.items course.memory
-    (map event_of course.events.items) t c.test-test.ensures.checked.test c.requires.course in
-    let a : (marks_of course.threads.items t).done ≤ length (body_of checked.test t) = few.0 in
-    let b : length (body_of checked.test t) ≤ 16 = few.1 in
-    let d : c.progress_of.result.done ≡ (marks_of course.threads.items t).done = ap
-    (λ (m : Mark). m.done) c.progress_of.ensures in
+    let d = done_here checked c.args.conjunction c.args.course.now t c.progress_of.result
+    c.requires.course c.progress_of.ensures in
+    let b = body_few checked.test t c.test-test.ensures.checked.test in
     omega arith
 
 pub progress_after-own-requires-clause-place : goal.progress_after-own-requires-clause-place
 progress_after-own-requires-clause-place c =
     let checked = c.args.checked.now in
-    let course = c.args.course.now in
     let t = c.args.event.thread in
-    let few = done_few checked.test (kinds_in checked c.args.conjunction) course.threads.items course.memory
-    (map event_of course.events.items) t c.test-test.ensures.checked.test c.requires.course in
-    let b : length (body_of checked.test t) ≤ 16 = few.1 in
+    let b = body_few checked.test t c.test-test.ensures.checked.test in
     let p : c.args.event.place < length (body_of checked.test t) = c.requires.next.place in
     omega arith
 
