@@ -6,7 +6,7 @@ use Rattle.std.specs.Option.{is_some}
 use Rattle.x86_subset.specs.Instr.{is_reading}
 use Rattle.x86_subset.specs.Test.{LitmusTest}
 use Rattle.x86_subset.specs.declared.instr.Instr.{Instr}
-use Rattle.tso_machine.specs.Event.{Event, event_location}
+use Rattle.tso_machine.specs.Event.{Event, event_location, is_drain}
 use Rattle.tso_machine.specs.Run.{IsRunOf}
 use Rattle.tso_machine.specs.Source.{source_of}
 use Rattle.seq_conv.specs.Numbers.{AreOf, Table, stores_at}
@@ -32,7 +32,8 @@ use Rattle.decision.specs.Decisions.{NeverHolds}
 use Rattle.decision.specs.Laws.{HiddenReadsNeverHold}
 use Rattle.verdict.proofs.EventKinds.{stores_storing}
 use Rattle.verdict.proofs.Finds.{any_found}
-use Rattle.verdict.proofs.ReadEdges.{is_action_from, source_first}
+use Rattle.verdict.proofs.Moments.{event_from}
+use Rattle.verdict.proofs.ReadEdges.{source_first}
 use Rattle.verdict.proofs.Taken.{FromBuffer, FromMemory, at_least, taken_from}
 use Rattle.decision.proofs.OwnReads.{Hider, OwnRead, never_read, own, own_order}
 
@@ -48,7 +49,7 @@ own_read test n run t q p i j action r below early stands reading source =
     let here : source_at test (record { thread = t; place = q }) i run ≡ source_of test e.event e.before =
     ap (source_at test (record { thread = t; place = q }) i) e.whole
     ∙ source_first test e.before e.event e.after (record { thread = t; place = q }) i e.none_before
-    (is_action_from (record { thread = t; place = q }) i e.event e.no_drain e.thread e.place e.iteration) in
+    (event_from is_drain (record { thread = t; place = q }) i e.event e.no_drain e.thread e.place e.iteration) in
     let C : ℕ → ℕ → Type 0 =
     λ u y. FromBuffer test u y e.before (own t p j) ⊎ FromMemory test u y e.event.kind e.before (own t p j) in
     let D : ℕ → Type 0 = λ u. C u (named_by action) in
@@ -69,7 +70,7 @@ own_read test n run t q p i j action r below early stands reading source =
       first = λ d. both_ways (is_action_event (record { thread = t; place = q }) i d.event)
           (each_among (λ c. is_action_event (record { thread = t; place = q }) i c ≡ false) d.event e.before d.among
           e.none_before)
-          (is_action_from (record { thread = t; place = q }) i d.event d.is d.thread d.place d.iteration);
+          (event_from is_drain (record { thread = t; place = q }) i d.event d.is d.thread d.place d.iteration);
       taken = subst D e.thread (subst (C e.event.thread) loc
           (taken_from test e.event e.before (own t p j) e.event.kind (sym here ∙ source)));
     }
