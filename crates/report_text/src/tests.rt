@@ -108,16 +108,40 @@ fn atom(form: AtomForm, reader: u32, column: u32, writer: u32) -> AtomRow
     }
 }
 
-/// Two threads that store to one location, and one that reads it.
-fn two_writers(rt: &impl Abort, alloc: Global) -> Result<Conversion, NoMemory>
-    ensures name { IfOk result (λ rows. IsAscii rows.name) }
-    ensures stores { IfOk result (λ rows. All (λ row. IsAscii row.loc) rows.stores.items) }
-    ensures reads { IfOk result (λ rows. All (λ row. IsAscii row.loc) rows.reads.items) }
-    ensures sequences { IfOk result (λ rows. All (λ row. 0 < row.k) rows.atoms.items) }
+/// The text of a conversion with these rows.
+fn text_of(
+    rt: &impl Abort,
+    alloc: Global,
+    test: &[u8],
+    threads: u32,
+    stores: Vec<StoreRow>,
+    reads: Vec<ReadRow>,
+    atoms: Vec<AtomRow>,
+) -> Result<String, NoMemory>
+    requires stores { All (λ row. IsAscii row.loc) stores.items }
+    requires reads { All (λ row. IsAscii row.loc) reads.items }
+    requires sequences { All (λ row. 0 < row.k) atoms.items }
 {
-    let first = store(rt, alloc, (0, 0), b"x", (2, 1))?;
-    let second = store(rt, alloc, (1, 0), b"x", (2, 2))?;
-    let only = read(rt, alloc, (2, 0), b"x", 0)?;
+    let rows = Conversion {
+        name: name(rt, alloc, test)?,
+        threads,
+        stores,
+        reads,
+        atoms,
+    };
+    convert_text(alloc, &rows)
+}
+
+/// Two threads that store to one location, and one that reads it.
+const TWO_WRITERS: &str =
+    "Test W2\nThreads 3\nStore P0 0 x value 2*n+1\nStore P1 0 x value 2*n+2\nRead P2 0 x column 0\nAtom 1 rf P2 column 0 from P1: value >= 2*m+2, value mod 2 = 0\n";
+
+#[test]
+fn several_stores_to_a_location_have_their_ranks(rt: HostRuntime) -> Result<(), Fail> {
+    let alloc = rt.alloc();
+    let first = store(&rt, alloc, (0, 0), b"x", (2, 1))?;
+    let second = store(&rt, alloc, (1, 0), b"x", (2, 2))?;
+    let only = read(&rt, alloc, (2, 0), b"x", 0)?;
     let newest = AtomRow {
         form: AtomForm::Rf,
         reader: 2,
@@ -126,75 +150,49 @@ fn two_writers(rt: &impl Abort, alloc: Global) -> Result<Conversion, NoMemory>
         k: 2,
         a: 2,
     };
-    Ok(Conversion {
-        name: name(rt, alloc, b"W2")?,
-        threads: 3,
-        stores: Vec::from_array(alloc, [first, second])?,
-        reads: Vec::from_array(alloc, [only])?,
-        atoms: Vec::from_array(alloc, [newest])?,
-    })
+    let stores = vec![in alloc; first, second]?;
+    let text = text_of(
+        &rt,
+        alloc,
+        b"W2",
+        3,
+        stores,
+        vec![in alloc; only]?,
+        vec![in alloc; newest]?,
+    )?;
+    assert_eq!(rt; text.as_str(), TWO_WRITERS);
+    Ok(())
 }
 
 /// Store buffering: each thread stores to one location and reads the other.
-fn store_buffering(rt: &impl Abort, alloc: Global) -> Result<Conversion, NoMemory>
-    ensures name { IfOk result (λ rows. IsAscii rows.name) }
-    ensures stores { IfOk result (λ rows. All (λ row. IsAscii row.loc) rows.stores.items) }
-    ensures reads { IfOk result (λ rows. All (λ row. IsAscii row.loc) rows.reads.items) }
-    ensures sequences { IfOk result (λ rows. All (λ row. 0 < row.k) rows.atoms.items) }
-{
-    let store_x = store(rt, alloc, (0, 0), b"x", (1, 1))?;
-    let store_y = store(rt, alloc, (1, 0), b"y", (1, 1))?;
-    let read_y = read(rt, alloc, (0, 1), b"y", 0)?;
-    let read_x = read(rt, alloc, (1, 1), b"x", 0)?;
-    let atoms = [atom(AtomForm::Fr, 0, 0, 1), atom(AtomForm::Fr, 1, 0, 0)];
-    Ok(Conversion {
-        name: name(rt, alloc, b"SB")?,
-        threads: 2,
-        stores: Vec::from_array(alloc, [store_x, store_y])?,
-        reads: Vec::from_array(alloc, [read_y, read_x])?,
-        atoms: Vec::from_array(alloc, atoms)?,
-    })
-}
-
-/// Message passing: one thread stores to two locations, the other reads them in the other order.
-fn message_passing(rt: &impl Abort, alloc: Global) -> Result<Conversion, NoMemory>
-    ensures name { IfOk result (λ rows. IsAscii rows.name) }
-    ensures stores { IfOk result (λ rows. All (λ row. IsAscii row.loc) rows.stores.items) }
-    ensures reads { IfOk result (λ rows. All (λ row. IsAscii row.loc) rows.reads.items) }
-    ensures sequences { IfOk result (λ rows. All (λ row. 0 < row.k) rows.atoms.items) }
-{
-    let store_x = store(rt, alloc, (0, 0), b"x", (1, 1))?;
-    let store_y = store(rt, alloc, (0, 1), b"y", (1, 1))?;
-    let read_y = read(rt, alloc, (1, 0), b"y", 0)?;
-    let read_x = read(rt, alloc, (1, 1), b"x", 1)?;
-    let atoms = [atom(AtomForm::Exact, 1, 0, 0), atom(AtomForm::Fr, 1, 1, 0)];
-    Ok(Conversion {
-        name: name(rt, alloc, b"MP")?,
-        threads: 2,
-        stores: Vec::from_array(alloc, [store_x, store_y])?,
-        reads: Vec::from_array(alloc, [read_y, read_x])?,
-        atoms: Vec::from_array(alloc, atoms)?,
-    })
-}
-
-const TWO_WRITERS: &str =
-    "Test W2\nThreads 3\nStore P0 0 x value 2*n+1\nStore P1 0 x value 2*n+2\nRead P2 0 x column 0\nAtom 1 rf P2 column 0 from P1: value >= 2*m+2, value mod 2 = 0\n";
-
 const STORE_BUFFERING: &str =
     "Test SB\nThreads 2\nStore P0 0 x value 1*n+1\nStore P1 0 y value 1*n+1\nRead P0 1 y column 0\nRead P1 1 x column 0\nAtom 1 fr P0 column 0 from P1: value < 1*m+1\nAtom 2 fr P1 column 0 from P0: value < 1*m+1\n";
 
+/// Message passing: one thread stores to two locations, the other reads them in the other order.
 const MESSAGE_PASSING: &str =
     "Test MP\nThreads 2\nStore P0 0 x value 1*n+1\nStore P0 1 y value 1*n+1\nRead P1 0 y column 0\nRead P1 1 x column 1\nAtom 1 exact P1 column 0 from P0: value = 1*m+1\nAtom 2 fr P1 column 1 from P0: value < 1*m+1\n";
 
 #[test]
 fn a_conversion_has_its_lines(rt: HostRuntime) -> Result<(), Fail> {
     let alloc = rt.alloc();
-    let rows = two_writers(&rt, alloc)?;
-    assert_eq!(rt; convert_text(alloc, &rows)?.as_str(), TWO_WRITERS);
-    let rows = store_buffering(&rt, alloc)?;
-    assert_eq!(rt; convert_text(alloc, &rows)?.as_str(), STORE_BUFFERING);
-    let rows = message_passing(&rt, alloc)?;
-    assert_eq!(rt; convert_text(alloc, &rows)?.as_str(), MESSAGE_PASSING);
+    let store_x = store(&rt, alloc, (0, 0), b"x", (1, 1))?;
+    let store_y = store(&rt, alloc, (1, 0), b"y", (1, 1))?;
+    let read_y = read(&rt, alloc, (0, 1), b"y", 0)?;
+    let read_x = read(&rt, alloc, (1, 1), b"x", 0)?;
+    let stores = vec![in alloc; store_x, store_y]?;
+    let reads = vec![in alloc; read_y, read_x]?;
+    let atoms = vec![in alloc; atom(AtomForm::Fr, 0, 0, 1), atom(AtomForm::Fr, 1, 0, 0)]?;
+    let text = text_of(&rt, alloc, b"SB", 2, stores, reads, atoms)?;
+    assert_eq!(rt; text.as_str(), STORE_BUFFERING);
+    let store_x = store(&rt, alloc, (0, 0), b"x", (1, 1))?;
+    let store_y = store(&rt, alloc, (0, 1), b"y", (1, 1))?;
+    let read_y = read(&rt, alloc, (1, 0), b"y", 0)?;
+    let read_x = read(&rt, alloc, (1, 1), b"x", 1)?;
+    let stores = vec![in alloc; store_x, store_y]?;
+    let reads = vec![in alloc; read_y, read_x]?;
+    let atoms = vec![in alloc; atom(AtomForm::Exact, 1, 0, 0), atom(AtomForm::Fr, 1, 1, 0)]?;
+    let text = text_of(&rt, alloc, b"MP", 2, stores, reads, atoms)?;
+    assert_eq!(rt; text.as_str(), MESSAGE_PASSING);
     Ok(())
 }
 
