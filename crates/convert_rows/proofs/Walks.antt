@@ -1,5 +1,5 @@
 -- Lemmas on rows that are made by a walk over a test.
-use Rattle.std.proofs.Common.{◌≡◌, ◌∙◌, ℕ, zero, suc, ◌+◌, ◌<◌, true, Option, None, Some, List, [], ◌∷◌, ◌++◌, length, map, take, drop, slice_get, unwrap_or, All, sym, ap, arith, append_assoc, eq-eqb}
+use Rattle.std.proofs.Common.{◌≡◌, ◌∙◌, ℕ, zero, suc, ◌+◌, ◌<◌, true, Option, None, Some, List, [], ◌∷◌, ◌++◌, length, map, take, drop, slice_get, unwrap_or, All, sym, ap, subst, arith, append_assoc, eq-eqb}
 use Rattle.std.proofs.Math.Seq.{take-suc}
 use Rattle.std.proofs.lemmas.List.{map-append}
 use Rattle.std.proofs.lemmas.List.Elements.{All-from_recursion, recursion_from_All}
@@ -15,9 +15,7 @@ use Rattle.x86_subset.specs.declared.instr.Instr.TheVariants.{Store, Load, Fence
 use Rattle.seq_conv.specs.declared.site.Site.{Site}
 use Rattle.perp_base.proofs.Lists.{each_append}
 use Rattle.seq_conv.proofs.Numbering.{next_item}
-use Rattle.report_text.specs.declared.conversion.ReadRow.{ReadRow}
-use Rattle.report_text.specs.declared.conversion.StoreRow.{StoreRow}
-use Rattle.convert_rows.specs.Rows.{location_taken, location_written, name_of, read_row, read_rows_at, row_by, rows_in_bodies, rows_in_body, store_row, store_rows_at}
+use Rattle.convert_rows.specs.Rows.{location_written, name_of, row_by, rows_in_bodies, rows_in_body}
 
 -- one image more
 pub map_more : {X Y : Type 0} (f : X → Y) (xs : List X) (i : ℕ) (x : X) (ys zs : List Y) (y : Y)
@@ -82,18 +80,15 @@ name_by (name ∷ names) (suc x) h = name_by names x h.1
 ascii_name : (test : LitmusTest) (x : ℕ) → All IsAscii test.locations → IsAscii (name_of test x)
 ascii_name test x h = name_by test.locations x (recursion_from_All IsAscii test.locations h)
 
-pub ascii_stores : (test : LitmusTest) → All IsAscii test.locations
-    → All (λ (row : StoreRow). IsAscii row.loc) (rows_in_bodies (store_rows_at test) 0 test.bodies)
-ascii_stores test h =
-    All-from_recursion (λ (row : StoreRow). IsAscii row.loc) (rows_in_bodies (store_rows_at test) 0 test.bodies)
-    (bodies_hold (λ (row : StoreRow). IsAscii row.loc) (store_rows_at test) 0 test.bodies
-    (λ s a. row_holds (λ (row : StoreRow). IsAscii row.loc) (store_row test s) (location_written a)
-    (λ x. ascii_name test x h)))
-
-pub ascii_reads : (test : LitmusTest) → All IsAscii test.locations
-    → All (λ (row : ReadRow). IsAscii row.loc) (rows_in_bodies (read_rows_at test) 0 test.bodies)
-ascii_reads test h =
-    All-from_recursion (λ (row : ReadRow). IsAscii row.loc) (rows_in_bodies (read_rows_at test) 0 test.bodies)
-    (bodies_hold (λ (row : ReadRow). IsAscii row.loc) (read_rows_at test) 0 test.bodies
-    (λ s a. row_holds (λ (row : ReadRow). IsAscii row.loc) (read_row test s) (location_taken a)
-    (λ x. ascii_name test x h)))
+-- rows whose location is this field of theirs, of a test that is this one
+pub ascii_rows : {X : Type 0} (loc : X → List ℕ) (row : LitmusTest → Site → ℕ → X) (at : Instr → Option ℕ)
+    (rows : List X) (same test : LitmusTest) → ((s : Site) (x : ℕ) → loc (row test s x) ≡ name_of test x)
+    → rows ≡ rows_in_bodies (λ s a. row_by (row same s) (at a)) 0 same.bodies
+    → same ≡ test → All IsAscii test.locations → All (λ y. IsAscii (loc y)) rows
+ascii_rows loc row at rows same test named r e h =
+    subst (All (λ y. IsAscii (loc y)))
+    (sym (r ∙ ap (λ (t : LitmusTest). rows_in_bodies (λ s a. row_by (row t s) (at a)) 0 t.bodies) e))
+    (All-from_recursion (λ y. IsAscii (loc y)) (rows_in_bodies (λ s a. row_by (row test s) (at a)) 0 test.bodies)
+    (bodies_hold (λ y. IsAscii (loc y)) (λ s a. row_by (row test s) (at a)) 0 test.bodies
+    (λ s a. row_holds (λ y. IsAscii (loc y)) (row test s) (at a)
+    (λ x. subst IsAscii (sym (named s x)) (ascii_name test x h)))))
