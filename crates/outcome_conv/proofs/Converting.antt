@@ -1,6 +1,5 @@
 -- The conditions of atoms, made by the sequences of the test.
-use Rattle.std.proofs.Common.{◌≡◌, ℕ, zero, suc, ◌+◌, ◌<◌, ◌≤◌, true, false, cond, Option, Some, IfSome, Ok, All, List, [], ◌∷◌, ◌++◌, drop, get_or, length, map, slice_get, take, refl, sym, ap, ◌∙◌, arith, subst}
-use Rattle.std.proofs.lemmas.List.{drop_more}
+use Rattle.std.proofs.Common.{◌≡◌, ℕ, zero, suc, ◌+◌, ◌<◌, ◌≤◌, true, Some, IfSome, Ok, All, List, [], ◌∷◌, ◌++◌, get_or, length, map, slice_get, take, refl, sym, ap, ◌∙◌, arith, subst}
 use Rattle.std.proofs.lemmas.Option.{get_or_from_slice_get, slice_get_within}
 use Rattle.std.specs.List.{AllZip}
 use Rattle.x86_subset.specs.Instr.{is_reading, location_of}
@@ -24,29 +23,9 @@ use Rattle.outcome_conv.specs.declared.cond.CondKind.TheVariants.{AtLeast, Below
 use Rattle.outcome_conv.specs.declared.cond.CondKind.TheVariants as cond_kind
 use Rattle.outcome_conv.specs.Conditions.{AreConditions, IsOfTest}
 use Rattle.outcome_conv.specs.Conds.{cond_of, conds_of}
-use Rattle.outcome_conv.specs.Holds.{location_read, reading_places}
+use Rattle.outcome_conv.specs.Holds.{location_read}
 use Rattle.outcome_conv.proofs.Agree.{location_is, thread_below}
 use Rattle.outcome_conv.proofs.Named.{conditions_are, conditions_name_the_test_lem}
-
--- the places that read, from one place on
-
-pub places_read : (body : List Instr) (i left : ℕ) (d : Instr) (whole : Option ℕ) → i < length body
-    → is_reading (get_or body i d) ≡ true
-    → slice_get (reading_places i (drop i body)) left ≡ whole
-    → slice_get (i ∷ reading_places (i + 1) (drop (i + 1) body)) left ≡ whole
-places_read body i left d whole lt e h =
-    sym (ap (λ xs. slice_get (reading_places i xs) left) (drop_more body i d lt)
-    ∙ ap (λ b. slice_get (cond b (i ∷ reading_places (i + 1) (drop (i + 1) body))
-    (reading_places (i + 1) (drop (i + 1) body))) left) e) ∙ h
-
-pub places_skipped : (body : List Instr) (i left : ℕ) (d : Instr) (whole : Option ℕ) → i < length body
-    → is_reading (get_or body i d) ≡ false
-    → slice_get (reading_places i (drop i body)) left ≡ whole
-    → slice_get (reading_places (i + 1) (drop (i + 1) body)) left ≡ whole
-places_skipped body i left d whole lt e h =
-    sym (ap (λ xs. slice_get (reading_places i xs) left) (drop_more body i d lt)
-    ∙ ap (λ b. slice_get (cond b (i ∷ reading_places (i + 1) (drop (i + 1) body))
-    (reading_places (i + 1) (drop (i + 1) body))) left) e) ∙ h
 
 -- what the sequences give for an atom
 
@@ -99,12 +78,14 @@ is_read test table t column p action h o a =
     let e = o.locations in
     record { within = omega arith; count = count_is test table (location_read test t column) o l }
 
-named_in : (test : LitmusTest) (table : Table) (t column p : ℕ) (action : Instr) (s : Site) → AreOf test table
-    → IsReader test t column p action → Among s (stores_of test (named_by action))
-    → StoreIn test table (location_read test t column) s
-named_in test table t column p action s o a stands =
-    store_in test table (location_read test t column) s o (subst (λ x. Among s (stores_of test x))
-    (sym (location_is test t column p action a)) stands)
+read_store : (test : LitmusTest) (table : Table) (t column p : ℕ) (action : Instr) (s : Site) → IsTest test
+    → AreOf test table → IsReader test t column p action → Among s (stores_of test (named_by action))
+    → IsRead test table t column × StoreIn test table (location_read test t column) s
+read_store test table t column p action s h o a stands = (
+  is_read test table t column p action h o a,
+  store_in test table (location_read test t column) s o (subst (λ x. Among s (stores_of test x))
+      (sym (location_is test t column p action a)) stands),
+)
 
 abbrev Kind : LitmusTest → AtomKind → Type 0
 Kind test kind = (atom : Atom) × (kind_of test atom ≡ Ok kind)
@@ -116,11 +97,8 @@ pub rf_read : (test : LitmusTest) (table : Table) (kind : AtomKind) (t column w 
     → Kind test kind → kind ≡ Rf t column w p
     → IsRead test table t column × StoreIn test table (location_read test t column) (record { thread = w; place = p })
 rf_read test table kind t column w p h o k e =
-    let tells : Tells test (Rf t column w p) = told test kind (Rf t column w p) h k e in (
-      is_read test table t column tells.place tells.action h o tells.reader,
-      named_in test table t column tells.place tells.action (record { thread = w; place = p }) o tells.reader
-          tells.stands,
-    )
+    let tells : Tells test (Rf t column w p) = told test kind (Rf t column w p) h k e in
+    read_store test table t column tells.place tells.action _ h o tells.reader tells.stands
 
 pub fr_read : (test : LitmusTest) (table : Table) (kind : AtomKind) (t column w : ℕ) → IsTest test → AreOf test table
     → Kind test kind → kind ≡ Fr t column w → IsRead test table t column
@@ -132,11 +110,8 @@ pub exact_read : (test : LitmusTest) (table : Table) (kind : AtomKind) (t column
     → AreOf test table → Kind test kind → kind ≡ Exact t column w p
     → IsRead test table t column × StoreIn test table (location_read test t column) (record { thread = w; place = p })
 exact_read test table kind t column w p h o k e =
-    let tells : Tells test (Exact t column w p) = told test kind (Exact t column w p) h k e in (
-      is_read test table t column tells.place tells.action h o tells.reader,
-      named_in test table t column tells.place tells.action (record { thread = w; place = p }) o tells.reader
-          tells.stands,
-    )
+    let tells : Tells test (Exact t column w p) = told test kind (Exact t column w p) h k e in
+    read_store test table t column tells.place tells.action _ h o tells.reader tells.stands
 
 -- the condition of these numbers
 

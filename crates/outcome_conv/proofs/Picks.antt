@@ -75,10 +75,6 @@ set_step n m o false l h = h
 set_below : (n w m : ℕ) (chosen : Chosen) → m < n → AreBelow n chosen → AreBelow n (updated chosen w (Some m))
 set_below n w m chosen l h = λ t. set_step n m (chosen t) (w == t) l (h t)
 
-get_below : (n i : ℕ) (o : Option ℕ) → o ≡ Some i → IfSome o (λ i. i < n) → i < n
-get_below n i None e h = cc
-get_below n i (Some j) e h = let s : j ≡ i = cc in let l : j < n = h in omega arith
-
 module _ (test : LitmusTest) (n : ℕ) where
   -- the same link is due
 
