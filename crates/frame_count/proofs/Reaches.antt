@@ -125,10 +125,6 @@ pub left_by_reader : (x y s t h k : Bool) → x ≡ false
     → ((not s || (not (x && not y) || h)) && (not t || (not (x && y) || k))) ≡ true
 left_by_reader x y s t h k e = grind arith
 
-pub left_own : (x y s t h k : Bool) → x ≡ true → y ≡ true
-    → ((not s || (not (x && not y) || h)) && (not t || (not (x && y) || k))) ≡ (not t || k)
-left_own x y s t h k e f = grind arith
-
 pub left_row : (x y s t h k : Bool) → x ≡ true → y ≡ false
     → ((not s || (not (x && not y) || h)) && (not t || (not (x && y) || k))) ≡ (not s || h)
 left_row x y s t h k e f = grind arith

@@ -1,9 +1,9 @@
 -- A frame in which the conditions of a plan set their writers' iterations, one after the other, becomes the heuristic
 -- frame.
-use Rattle.std.proofs.Common.{◌≡◌, ◌≢◌, ℕ, zero, suc, ◌+◌, ◌<◌, ◌==◌, Bool, true, false, cond, not, Option, None, Some, List, [], ◌∷◌, drop, length, map, get_or, set, replicate, is_some, option_map, option_and_then, unwrap_or, refl, sym, ap, ◌∙◌, arith}
+use Rattle.std.proofs.Common.{◌≡◌, ◌≢◌, ℕ, zero, suc, ◌+◌, ◌<◌, ◌==◌, Bool, true, false, cond, not, Option, None, Some, List, [], ◌∷◌, length, map, get_or, set, replicate, is_some, option_map, option_and_then, unwrap_or, refl, sym, ap, ◌∙◌, arith}
 use Rattle.std.proofs.lemmas.Bool.{and_parts, eq-eqb, eqb-true}
 use Rattle.std.proofs.lemmas.Grind.{same_number_lists}
-use Rattle.std.proofs.lemmas.List.{drop_more, get_or-set_other, get_or-set_same, get_or-replicate, length-set}
+use Rattle.std.proofs.lemmas.List.{get_or-set_other, get_or-set_same, get_or-replicate, length-set}
 use Rattle.std.proofs.lemmas.List.FromFn.{get_or-map-range_with_len, length-map-range_with_len}
 use Rattle.std.specs.List.{AllByRecursion as Each, range_with_len}
 use Rattle.std.specs.Prelude.{find}
@@ -161,17 +161,6 @@ picked_some values threads n ends conds c i base within b =
     ap (λ l. picked_frame threads l i) (conjunction_of-map (link_by values n) ends conds c)
     ∙ frame_is values threads n group i (each_of (IsWithin threads) ends conds c within)
     ∙ ap (λ o. option_and_then (λ t. frame_along values n (plan_from group t) (replicate threads i)) o) b
-
--- one step along the order
-pub along_more : (values : Logged) (n : ℕ) (order : List Cond) (i : ℕ) (d : Cond) (frame : List ℕ)
-    (whole : Option (List ℕ)) (o : Option ℕ) → i < length order
-    → frame_along values n (drop i order) frame ≡ whole
-    → o ≡ choice_of values n (get_or order i d) (get_or frame (get_or order i d).reader 0)
-    → option_and_then (λ m. frame_along values n (drop (i + 1) order) (set frame (get_or order i d).writer m)) o ≡ whole
-along_more values n order i d frame whole o lt e f =
-    ap (option_and_then (λ m. frame_along values n (drop (i + 1) order) (set frame (get_or order i d).writer m))) f
-    ∙ ap (λ l. frame_along values n l frame) (sym (drop_more order i d lt))
-    ∙ e
 
 -- The base keeps its iteration.
 

@@ -170,9 +170,6 @@ same_test values f xs ys e = ap (list_all (cond_holds values f)) e
 
 -- a tested frame
 
-pub only_none : (p : List ℕ → Bool) (o : Option (List ℕ)) → o ≡ None → only_if p o ≡ None
-only_none p o e = ap (only_if p) e
-
 pub only_some : (p : List ℕ → Bool) (f : List ℕ) (o : Option (List ℕ)) → o ≡ Some f → p f ≡ true → only_if p o ≡ Some f
 only_some p f o e h = ap (only_if p) e ∙ ap (λ b. if b then Some f else None) h
 
