@@ -99,8 +99,8 @@ fn all_word(conds: &[Cond], logs: &Logs, frame: &Frame, stretch: Stretch, at: us
     }
 }
 
-/// A row of frames: the conditions, the logs, the iterations of the threads other than the last, and the stretch of each
-/// conjunction.
+/// A row of frames: the conditions, the logs, a frame with the iterations of all threads but the last, and the stretch
+/// of each conjunction.
 #[derive(Clone, Copy)]
 pub(crate) struct Row<'a> {
     pub conds: &'a Conds,

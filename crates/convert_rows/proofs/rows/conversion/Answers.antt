@@ -7,8 +7,9 @@ use Rattle.convert_rows.proofs.rows.conversion.Goals as goal
 
 pub returns-clause-stores : goal.returns-clause-stores
 returns-clause-stores c =
-    ascii_rows (λ (row : StoreRow). row.loc) store_row location_written c.in_ok-stores.stores.items c.test-test.result.now
-    c.args.checked.now.test (λ s x. refl) c.in_ok-stores.ensures c.test-test.ensures.is c.requires.locations
+    ascii_rows (λ (row : StoreRow). row.loc) store_row location_written c.in_ok-stores.stores.items
+    c.test-test.result.now c.args.checked.now.test (λ s x. refl) c.in_ok-stores.ensures c.test-test.ensures.is
+    c.requires.locations
 
 pub returns-clause-reads : goal.returns-clause-reads
 returns-clause-reads c =

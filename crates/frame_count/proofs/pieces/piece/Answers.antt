@@ -29,7 +29,8 @@ next-total-requires c =
     }
 
 -- the hits of this row, by the numbers of its frames
-row_hits : (c : goal.After-next-total) → c.next-total.result ≡ count_by (number_holds c.args.conds.now c.args.logs.now.logs c.args.n)
+row_hits : (c : goal.After-next-total) → c.next-total.result
+    ≡ count_by (number_holds c.args.conds.now c.args.logs.now.logs c.args.n)
     (range_with_len c.loop-at.at c.min-row.result)
 row_hits c =
     let n = c.args.n in

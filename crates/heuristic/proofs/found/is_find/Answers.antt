@@ -57,4 +57,5 @@ returns-in-None-find c = sym (own_find c.before ∙ is_frame_none c.args.frame.n
 pub returns-in-Some-find : goal.returns-in-Some-find
 returns-in-Some-find c =
     c.is.ensures
-    ∙ sym (own_find c.before.before.before ∙ is_frame_some c.args.frame.now c.in-Some-find.own c.find.result c.in-Some-find.is)
+    ∙ sym (own_find c.before.before.before
+    ∙ is_frame_some c.args.frame.now c.in-Some-find.own c.find.result c.in-Some-find.is)

@@ -7,10 +7,11 @@ use Rattle.outcome_conv.proofs.convert.cond_of.Goals.{In-Rf, In-Exact}
 
 -- what is read is that of a location with this store
 rf : (c : In-Rf) → IsRead c.args.test.now c.args.sequences.now c.in-Rf.reader c.in-Rf.column
-    × StoreIn c.args.test.now c.args.sequences.now (location_read c.args.test.now c.in-Rf.reader c.in-Rf.column) (record { thread = c.in-Rf.writer; place = c.in-Rf.place })
+    × StoreIn c.args.test.now c.args.sequences.now (location_read c.args.test.now c.in-Rf.reader c.in-Rf.column)
+    (record { thread = c.in-Rf.writer; place = c.in-Rf.place })
 rf c =
-    rf_read c.args.test.now c.args.sequences.now c.args.kind c.in-Rf.reader c.in-Rf.column c.in-Rf.writer c.in-Rf.place c.requires.test c.requires.sequences
-    c.requires.kind c.in-Rf.is
+    rf_read c.args.test.now c.args.sequences.now c.args.kind c.in-Rf.reader c.in-Rf.column c.in-Rf.writer
+    c.in-Rf.place c.requires.test c.requires.sequences c.requires.kind c.in-Rf.is
 
 pub stores-k-requires : goal.stores-k-requires
 stores-k-requires c = rw (c.location_read-loc.ensures) ((rf c.before).0.within)
@@ -47,10 +48,11 @@ returns-in-Fr c =
 
 -- what is read is that of a location with this store
 exact : (c : In-Exact) → IsRead c.args.test.now c.args.sequences.now c.in-Exact.reader c.in-Exact.column
-    × StoreIn c.args.test.now c.args.sequences.now (location_read c.args.test.now c.in-Exact.reader c.in-Exact.column) (record { thread = c.in-Exact.writer; place = c.in-Exact.place })
+    × StoreIn c.args.test.now c.args.sequences.now (location_read c.args.test.now c.in-Exact.reader c.in-Exact.column)
+    (record { thread = c.in-Exact.writer; place = c.in-Exact.place })
 exact c =
-    exact_read c.args.test.now c.args.sequences.now c.args.kind c.in-Exact.reader c.in-Exact.column c.in-Exact.writer c.in-Exact.place c.requires.test c.requires.sequences
-    c.requires.kind c.in-Exact.is
+    exact_read c.args.test.now c.args.sequences.now c.args.kind c.in-Exact.reader c.in-Exact.column c.in-Exact.writer
+    c.in-Exact.place c.requires.test c.requires.sequences c.requires.kind c.in-Exact.is
 
 pub stores-k-requires-in-Exact : goal.stores-k-requires-in-Exact
 stores-k-requires-in-Exact c = rw (c.location_read-loc-in-Exact.ensures) ((exact c.before).0.within)
@@ -64,7 +66,8 @@ rank-a-requires-in-Exact-clause-place c = (exact c.before.before).1.place
 pub returns-in-Exact : goal.returns-in-Exact
 returns-in-Exact c =
     let f = exact c.before.before.before in
-    exact_is c.args.test.now c.args.kind c.in-Exact.reader c.in-Exact.column c.in-Exact.writer c.in-Exact.place _ _ _ c.in-Exact.is
-    c.location_read-loc-in-Exact.ensures
-    (c.stores-k-in-Exact.ensures ∙ ap (λ x. length (stores_at c.args.sequences.now x)) c.location_read-loc-in-Exact.ensures ∙ f.0.count)
+    exact_is c.args.test.now c.args.kind c.in-Exact.reader c.in-Exact.column c.in-Exact.writer c.in-Exact.place _ _ _
+    c.in-Exact.is c.location_read-loc-in-Exact.ensures
+    (c.stores-k-in-Exact.ensures ∙ ap (λ x. length (stores_at c.args.sequences.now x))
+    c.location_read-loc-in-Exact.ensures ∙ f.0.count)
     (c.rank-a-in-Exact.ensures ∙ f.1.rank)

@@ -18,7 +18,8 @@ overflow_add-total c =
 
 pub loop-at-preserved : goal.loop-at-preserved
 loop-at-preserved c =
-    (omega arith, counted_more (row_holds c.args.self.now) c.args.from c.loop-at.at 64 _ _ c.loop-at.invariant.1 (word c))
+    let p = row_holds c.args.self.now in
+    (omega arith, counted_more p c.args.from c.loop-at.at 64 _ _ c.loop-at.invariant.1 (word c))
 
 pub overflow_add-result : goal.overflow_add-result
 overflow_add-result c =
