@@ -1,5 +1,5 @@
 -- The parts of the headline, from how a call ended.
-use Rattle.std.proofs.Common.{◌≡◌, ℕ, ◌<◌, List, ◌++◌, length, take, Some, inl, inr, ap, subst, ◌∙◌}
+use Rattle.std.proofs.Common.{◌≡◌, ℕ, ◌<◌, List, ◌++◌, length, take, Some, ap, subst, ◌∙◌}
 use Rattle.x86_subset.specs.Test.{LitmusTest}
 use Rattle.tso_machine.specs.Event.{Event}
 use Rattle.tso_words.specs.Seats.{Ended as Closed}
@@ -10,19 +10,14 @@ use Rattle.litmus_reader.proofs.ReadingLaws.{same_test}
 use Rattle.command_words.specs.declared.job.Command.TheVariants.{Run}
 use Rattle.command_words.specs.Job.{Asked as Job}
 use Rattle.report_text.specs.declared.status.Status.{Status}
-use Rattle.report_text.specs.declared.status.Status.TheVariants.{Whole, WriteFault}
 use Rattle.perple_core.specs.Texts.{text_of}
 use Rattle.perp_base.specs.View.{View}
 use Rattle.program_edge.specs.Field.{SomeRunFits}
-use Rattle.perple_core.specs.Top.Ended.{ended_refused, ended_whole, ended_part}
+use Rattle.program_edge.proofs.Endings.{answer_of}
 use Rattle.perple_core.specs.Headline.{HasRun, IsRun, RunFits, RunReads, RunText}
 use Rattle.perple_core.specs.Top.{Ended, HasAnswer, IsTextOfRun}
 use Rattle.perple_core.proofs.Accepting.{none_due_has_kinds}
-use Rattle.perple_core.proofs.Endings.{accepts_text, whole_of, part_of, refused_is_no_text}
-
-neither_has : {status : Status} → (status ≡ Whole → ⊥) × (status ≡ WriteFault → ⊥) → HasRun status → ⊥
-neither_has neither (inl whole) = neither.0 whole
-neither_has neither (inr part) = neither.1 part
+use Rattle.perple_core.proofs.Endings.{accepts_text, laws, whole_of, part_of}
 
 -- a run that ended whole, or with a fault of writing, has its answer
 run_answer : (words : List (List ℕ)) (old new : View) (done : Closed) (out_old out_new : View) (untouched : Type 0)
@@ -30,12 +25,9 @@ run_answer : (words : List (List ℕ)) (old new : View) (done : Closed) (out_old
     → Ended words old new done out_old out_new untouched status → (job : Job) (bytes : List ℕ)
     → IsRun words old job bytes → HasRun status
     → HasAnswer (Run job) bytes done (λ _. Unit {0})
-run_answer words old new done out_old out_new untouched _ (ended_whole text answers written) = λ job bytes is has.
-    accepts_text words old new done (Run job) bytes text (λ _. Unit {0}) is.command_is is.told answers tt
-run_answer words old new done out_old out_new untouched _ (ended_part text answers rose written) = λ job bytes is has.
-    accepts_text words old new done (Run job) bytes text (λ _. Unit {0}) is.command_is is.told answers tt
-run_answer words old new done out_old out_new untouched _ (ended_refused status why ran kept) = λ job bytes is has.
-    absurd (neither_has (refused_is_no_text words old new status why) has)
+run_answer words old new done out_old out_new untouched status ended = λ job bytes is has.
+    let a = answer_of (laws words old new done) status ended has in
+    accepts_text words old new done (Run job) bytes a.0 (λ _. Unit {0}) is.command_is is.told a.1 tt
 
 pub reads_of : (words : List (List ℕ)) (old new : View) (done : Closed) (out_old out_new : View) (untouched : Type 0)
     (status : Status)

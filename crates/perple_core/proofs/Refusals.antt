@@ -13,7 +13,7 @@ use Rattle.litmus_reader.specs.Reading.{Reads}
 use Rattle.profile_check.specs.Profile.{Profile, inside, outside, profile_of}
 use Rattle.perple_core.specs.Due.{Took, Refused, IsInputRefusal, IsDue, due_for_profile, due_for_reading}
 use Rattle.perple_core.specs.Due.IsInputRefusal.{no_memory as input_memory, no_reading as input_reading, too_long as input_long}
-use Rattle.perple_core.specs.Due.Refused.{no_memory, no_reading, too_long, no_text}
+use Rattle.program_edge.specs.Ending.Refused.{no_memory, no_reading, too_long, no_input}
 use Rattle.perple_core.specs.Top.{RanFor, Accepts, IsStillOrRan}
 use Rattle.command_words.specs.declared.job.Command.{Command}
 use Rattle.command_words.specs.declared.job.Command.TheVariants.{Run, Replay, Convert, Demo}
@@ -22,16 +22,16 @@ pub refused_from_input : (words : List (List ℕ)) (old new : View) (command : C
     → command_of words ≡ Some command → IsInputRefusal command old new status → Refused words old new status
 refused_from_input words old new command _ is input_memory = no_memory
 refused_from_input words old new command _ is (input_reading none rose) =
-    no_reading command (record { command_is = is; no_demo = none }) rose
+    no_reading command is none rose
 refused_from_input words old new command _ is (input_long none over) =
-    too_long command (record { command_is = is; no_demo = none }) over
+    too_long command is none over
 
 pub refused_from_text : (words : List (List ℕ)) (old new : View) (command : Command) (bytes : List ℕ) (status : Status)
     → Took words old new command bytes → (status ≡ Memory) ⊎ IsDue command bytes (Some status)
     → Refused words old new status
 refused_from_text words old new command bytes status took (inl memory) =
     subst (Refused words old new) (sym memory) no_memory
-refused_from_text words old new command bytes status took (inr is) = no_text status command bytes took is
+refused_from_text words old new command bytes status took (inr is) = no_input status command bytes took is
 
 -- what a command did to the field, where memory ran out
 pub ran_or_still : (words : List (List ℕ)) (old new : View) (done : Closed) (command : Command) (test : LitmusTest)

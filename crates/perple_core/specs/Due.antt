@@ -12,11 +12,12 @@ use Rattle.command_words.specs.declared.job.Command.TheVariants.{Run, Replay, Co
 use Rattle.demo_text.specs.Demo.{demo_text_of}
 use Rattle.report_text.specs.declared.status.Over.TheVariants.{Input, Frames}
 use Rattle.report_text.specs.declared.status.Status.{Status}
-use Rattle.report_text.specs.declared.status.Status.TheVariants.{Memory, Usage, ReadFault, Limit}
+use Rattle.report_text.specs.declared.status.Status.TheVariants.{Memory, ReadFault, Limit}
 use Rattle.perp_base.specs.Bytes.{GaveAll, IsOver}
 use Rattle.perp_base.specs.Causes.{Rose}
 use Rattle.perple_core.specs.Texts.{asks_exhaustive, demo_options_of, frame_count_of}
 use Rattle.perp_base.specs.View.{View}
+use Rattle.program_edge.specs.Ending.{Call, Refused as RefusedCall}
 use Rattle.program_edge.specs.Form.{due_for_atoms, due_for_form}
 
 -- the demo's number
@@ -66,21 +67,23 @@ pub record Took (words : List (List ℕ)) (old new : View) (command : Command) (
   pub takes : Takes command old new bytes
   pub short : IsShort command bytes
 
--- the words are those of a command that reads the source
-pub record ReadsSource (words : List (List ℕ)) (command : Command) : Type 0 where
-  pub command_is : command_of words ≡ Some command
-  pub no_demo : demo_number command ≡ None
+-- the call: a command reads the source where it is no demo
+abbrev pub call_of : List (List ℕ) → View → View → Call Command Status
+call_of words old new = record {
+  took = Took words old new;
+  due = IsDue;
+  command = command_of words;
+  reads = λ command. demo_number command ≡ None;
+  core = λ status. status;
+  long = Limit Input;
+  limit = MOST_BYTES;
+  old = old;
+  new = new;
+}
 
 -- the causes of the refusals before a run
-pub data Refused (words : List (List ℕ)) (old new : View) : Status → Type 0 where
-  no_memory : Refused words old new Memory
-  no_command : command_of words ≡ None → new ≡ old → Refused words old new Usage
-  no_reading : (command : Command) → ReadsSource words command → Rose old.faults new.faults
-      → Refused words old new ReadFault
-  too_long : (command : Command) → ReadsSource words command → IsOver old.bytes new.bytes MOST_BYTES
-      → Refused words old new (Limit Input)
-  no_text : (status : Status) (command : Command) (bytes : List ℕ) → Took words old new command bytes
-      → IsDue command bytes (Some status) → Refused words old new status
+abbrev pub Refused : List (List ℕ) → View → View → Status → Type 0
+Refused words old new status = RefusedCall (call_of words old new) status
 
 -- the causes of the refusals of reading
 pub data IsInputRefusal (command : Command) (old new : View) : Status → Type 0 where

@@ -2,7 +2,7 @@
 -- 2010), and the counts are PerpLE's (Melissaris, Markakis, Shaw and Martonosi, MICRO 2020); statuses and texts are
 -- this project's own.
 use Rattle.std.specs.Prelude.{◌≡◌, ◌⊎◌, ℕ, ◌<◌, All, List, ◌++◌, length, take, drop, Some, None, MatchOption}
-use Rattle.std.specs.Io.KnownBytes.{Appends, IsAtEnd}
+use Rattle.std.specs.Io.KnownBytes.{IsAtEnd}
 use Rattle.std.specs.Str.{IsAscii}
 use Rattle.perp_base.specs.declared.limits.TheConstants.{MOST_BYTES}
 use Rattle.x86_subset.specs.Test.{LitmusTest}
@@ -23,12 +23,12 @@ use Rattle.demo_text.specs.Demo.{demo_text_of}
 use Rattle.report_text.specs.declared.status.Status.{Status}
 use Rattle.report_text.specs.declared.status.Status.TheVariants.{Whole, Memory, Usage, ReadFault, WriteFault, NotLitmus, OutsideProfile, Limit}
 use Rattle.report_text.specs.declared.status.Over.TheVariants.{Input, Threads, Locations, Instructions, Atoms, Frames}
-use Rattle.perp_base.specs.Bytes.{AppendsPart}
 use Rattle.perp_base.specs.Causes.{Rose}
 use Rattle.perp_base.specs.View.{View}
+use Rattle.program_edge.specs.Ending.{Ended as EndedCall, IsStillOr, IsUsage as IsUsageOf}
 use Rattle.program_edge.specs.Field.{IsStill, SomeRunFits}
 use Rattle.perple_core.specs.Texts.{text_of, conversion_text_of, demo_report_of, demo_options_of, schedule_of}
-use Rattle.perple_core.specs.Due.{Took, Refused, IsDue, IsShort, due_for_reading, demo_number}
+use Rattle.perple_core.specs.Due.{Took, IsDue, IsShort, call_of, due_for_reading, demo_number}
 
 -- the words are those of a demo
 abbrev pub IsDemo : List (List ℕ) → Type 0
@@ -82,7 +82,7 @@ pub record Ran (words : List (List ℕ)) (old new : View) (done : Closed) : Type
 
 -- no step was made, or memory ran out after a run
 abbrev pub IsStillOrRan : (words : List (List ℕ)) (old new : View) → Closed → Status → Type 0
-IsStillOrRan words old new done status = IsStill done ⊎ ((status ≡ Memory) × Ran words old new done)
+IsStillOrRan words old new done status = IsStillOr (λ s. s) done (Ran words old new done) status
 
 -- a command that makes no step on the field
 abbrev pub IsStillCommand : Command → Type 0
@@ -99,14 +99,9 @@ RanFor Convert test done = ⊥
 RanFor (Demo k) test done = ⊥
 
 -- How a call may end: with a refusal, which leaves `out` untouched, with the whole text, or with a part of it.
-pub data Ended (words : List (List ℕ)) (old new : View) (done : Closed) (out_old out_new : View)
-    (untouched : Type 0) : Status → Type 0 where
-  ended_refused : (status : Status) → Refused words old new status → IsStillOrRan words old new done status → untouched
-      → Ended words old new done out_old out_new untouched status
-  ended_whole : (text : List ℕ) → Answers words old new done text → Appends out_old.bytes out_new.bytes text
-      → Ended words old new done out_old out_new untouched Whole
-  ended_part : (text : List ℕ) → Answers words old new done text → Rose out_old.faults out_new.faults
-      → AppendsPart out_old.bytes out_new.bytes text → Ended words old new done out_old out_new untouched WriteFault
+abbrev pub Ended : List (List ℕ) → View → View → Closed → View → View → Type 0 → Status → Type 0
+Ended words old new done out_old out_new untouched status = EndedCall (call_of words old new)
+    (Answers words old new done) (Ran words old new done) done out_old out_new untouched status
 
 -- the text that a command is to take: the demo's own, or what the source tells that it has left
 abbrev pub Told : Command → View → List ℕ → Type 0
@@ -126,9 +121,8 @@ DemoCompletes words out_old out_new status = (k : ℕ)
     → (status ≡ Whole) ⊎ (status ≡ Memory)
 
 -- The words are no command exactly where that is answered, and it yields to want of memory.
-pub record IsUsage (words : List (List ℕ)) (status : Status) : Type 0 where
-  pub only : status ≡ Usage → command_of words ≡ None
-  pub each : command_of words ≡ None → (status ≡ Usage) ⊎ (status ≡ Memory)
+abbrev pub IsUsage : List (List ℕ) → Status → Type 0
+IsUsage words status = IsUsageOf (λ s. s) (command_of words) status
 
 -- the statuses before which the input was read to its end
 abbrev pub IsAfterReading : Status → Type 0

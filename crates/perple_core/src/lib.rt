@@ -9,7 +9,6 @@
 mod answer;
 mod ask;
 mod counters;
-mod deliver;
 mod report_run;
 mod top;
 mod work;

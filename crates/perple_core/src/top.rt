@@ -7,10 +7,9 @@ ghost use Rattle.perple_core.specs.Headline.{RunReads, RunFits, RunText};
 ghost use Rattle.perple_core.specs.Top.{IsDemo, Ended, Completes, DemoCompletes, IsUsage, WritesWhole, WritesPart, ReadsToEnd, AnswersDue, AnswersTooLong, IsField};
 
 use crate::answer::answer;
-use crate::deliver::deliver;
 use perp_base::{Sink, Source};
 use perp_loop::Gate;
-use program_edge::{Answered, Outcome, put_line};
+use program_edge::{Answered, Outcome, deliver, put_line};
 use report_text::{Status, refusal_text};
 use std::alloc::Global;
 use std::thread::Threads;

@@ -2,10 +2,11 @@
 //! litmus text, the running of a test, and the writing of an answer.
 //!
 //! `read_test` reads a text of the litmus format, and refuses it with the status that is due for its form and its shape
-//! (its clause `refuses`); `check_test` does so for its atoms. `put_text` writes a text and says whether all of it came
-//! onto the sink (`wrote`), `put_line` a line of which any part may be lost. `run_test` runs the threads of a test on a
-//! field: some run of x86-TSO fits what they did there, and each that fits has the logs (its clause `ran`, by
-//! `HasRunOn`); where memory ran out they did nothing (`still`). A field on which nothing is run is closed by
+//! (its clause `refuses`); `check_test` does so for its atoms. `deliver` writes a text and says whether all of it came
+//! onto the sink, and leaves the sink alone at a refusal; `put_line` writes a line of which any part may be lost. How a
+//! call ends stands in `specs/Ending`, for the commands and the statuses of any program. `run_test` runs the threads of
+//! a test on a field: some run of x86-TSO fits what they did there, and each that fits has the logs (its clause `ran`,
+//! by `HasRunOn`); where memory ran out they did nothing (`still`). A field on which nothing is run is closed by
 //! `close_unused`. An `Answered` is a text, or why there is none, with the closed field. `words_of` gives the words of
 //! a program, or the number with which it ends where it gets none.
 #![tactic(auto)]
@@ -22,4 +23,4 @@ pub use closing::close_unused;
 pub use reading::{check_test, read_test};
 pub use running::{Ran, run_test};
 pub use words::{NO_MEMORY, NO_WORDS, words_of};
-pub use writing::{put_line, put_text};
+pub use writing::{deliver, put_line};

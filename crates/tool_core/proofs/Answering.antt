@@ -13,7 +13,7 @@ use Rattle.perp_base.specs.View.{View}
 use Rattle.tool_core.specs.Words.{command_of}
 use Rattle.tool_core.specs.Due.{IsDue, IsInputRefusal, Refused, Took, due_for_test, parts_of}
 use Rattle.tool_core.specs.Due.IsInputRefusal.{no_memory as input_memory, no_reading as input_reading, too_long as input_long}
-use Rattle.tool_core.specs.Due.Refused.{no_memory, no_reading, too_long, no_input}
+use Rattle.program_edge.specs.Ending.Refused.{no_memory, no_reading, too_long, no_input}
 use Rattle.tool_core.specs.Top.{Accepts, Answers, IsAnswer, IsStillOrRan, IsText, Leaves, RanFor}
 use Rattle.tool_core.specs.declared.words.Command.{Command}
 use Rattle.tool_core.specs.declared.status.ToolStatus.{ToolStatus}
@@ -111,8 +111,8 @@ left command input parts test done (Err s) has works = still_or_ran command inpu
 pub refused_from_input : (words : List (List ℕ)) (old new : View) (command : Command) (status : ToolStatus)
     → command_of words ≡ Some command → IsInputRefusal old new status → Refused words old new status
 refused_from_input words old new command _ is input_memory = no_memory
-refused_from_input words old new command _ is (input_reading rose) = no_reading (command, is) rose
-refused_from_input words old new command _ is (input_long over) = too_long (command, is) over
+refused_from_input words old new command _ is (input_reading rose) = no_reading command is tt rose
+refused_from_input words old new command _ is (input_long over) = too_long command is tt over
 
 -- what a command answers to the input that it took
 pub record AnswersInput (command : Command) (input : List ℕ) (done : Closed)

@@ -10,13 +10,14 @@ use Rattle.litmus_reader.specs.Answer.{Answer, Accepted, Refused as Unread, Over
 use Rattle.litmus_reader.specs.Reading.{Reads}
 use Rattle.profile_check.specs.Profile.{profile_of}
 use Rattle.report_text.specs.declared.status.Over.TheVariants.{Input}
-use Rattle.report_text.specs.declared.status.Status.TheVariants.{Memory, Usage, ReadFault, Limit}
+use Rattle.report_text.specs.declared.status.Status.TheVariants.{Memory, ReadFault, Limit}
 use Rattle.run_text.specs.Events.{events_of}
 use Rattle.run_text.specs.Logs.{logs_of}
 use Rattle.run_text.specs.Sections.{Split, split_of}
 use Rattle.perp_loop.specs.Replaying.{sum_below}
 use Rattle.run_witness.specs.Order.{several_writers}
 use Rattle.perp_base.specs.View.{View}
+use Rattle.program_edge.specs.Ending.{Call, Refused as RefusedCall}
 use Rattle.program_edge.specs.Form.{due_for_atoms, due_for_form}
 use Rattle.tool_core.specs.Words.{command_of}
 use Rattle.tool_core.specs.declared.words.Command.{Command}
@@ -122,18 +123,23 @@ pub record Took (words : List (List ℕ)) (old new : View) (command : Command) (
   pub gave : GaveAll old.bytes new.bytes input
   pub short : length input ≤ MOST_INPUT
 
--- the words are those of some command
-abbrev pub IsCommand : List (List ℕ) → Type 0
-IsCommand words = (command : Command) × (command_of words ≡ Some command)
+-- the call: each command reads the source
+abbrev pub call_of : List (List ℕ) → View → View → Call Command ToolStatus
+call_of words old new = record {
+  took = Took words old new;
+  due = IsDue;
+  command = command_of words;
+  reads = λ _. Unit {0};
+  core = Core;
+  long = TooLong;
+  limit = MOST_INPUT;
+  old = old;
+  new = new;
+}
 
 -- the causes of the refusals before a run
-pub data Refused (words : List (List ℕ)) (old new : View) : ToolStatus → Type 0 where
-  no_memory : Refused words old new (Core Memory)
-  no_command : command_of words ≡ None → new ≡ old → Refused words old new (Core Usage)
-  no_reading : IsCommand words → Rose old.faults new.faults → Refused words old new (Core ReadFault)
-  too_long : IsCommand words → IsOver old.bytes new.bytes MOST_INPUT → Refused words old new TooLong
-  no_input : (status : ToolStatus) (command : Command) (input : List ℕ) → Took words old new command input
-      → IsDue command input (Some status) → Refused words old new status
+abbrev pub Refused : List (List ℕ) → View → View → ToolStatus → Type 0
+Refused words old new status = RefusedCall (call_of words old new) status
 
 -- the causes of the refusals of reading
 pub data IsInputRefusal (old new : View) : ToolStatus → Type 0 where

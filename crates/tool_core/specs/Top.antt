@@ -1,7 +1,7 @@
 -- What the second program's top call promises. The runs are those of x86-TSO (Sewell, Sarkar, Owens, Zappa Nardelli and
 -- Myreen, CACM 2010); commands, statuses and texts are this project's own.
 use Rattle.std.specs.Prelude.{◌≡◌, ◌⊎◌, ℕ, ◌<◌, ◌≤◌, List, ◌++◌, length, take, drop, Option, Some, None}
-use Rattle.std.specs.Io.KnownBytes.{Appends, IsAtEnd}
+use Rattle.std.specs.Io.KnownBytes.{IsAtEnd}
 use Rattle.perp_base.specs.declared.limits.TheConstants.{MOST_BYTES, MOST_INPUT}
 use Rattle.x86_subset.specs.Test.{LitmusTest}
 use Rattle.tso_words.specs.Seats.{Ended as Closed}
@@ -9,13 +9,13 @@ use Rattle.litmus_reader.specs.Answer.{Accepted}
 use Rattle.litmus_reader.specs.Reading.{Reads}
 use Rattle.report_text.specs.declared.status.Over.TheVariants.{Frames}
 use Rattle.report_text.specs.declared.status.Status.TheVariants.{Whole, Memory, Usage, ReadFault, WriteFault, NotLitmus, OutsideProfile, Limit}
-use Rattle.perp_base.specs.Bytes.{AppendsPart}
 use Rattle.perp_base.specs.Causes.{Rose}
 use Rattle.run_text.specs.Sections.{Split}
 use Rattle.perp_base.specs.View.{View}
+use Rattle.program_edge.specs.Ending.{Ended as EndedCall, IsStillOr, IsUsage as IsUsageOf}
 use Rattle.program_edge.specs.Field.{IsStill, SomeRunFits}
 use Rattle.tool_core.specs.Words.{command_of}
-use Rattle.tool_core.specs.Due.{IsDue, Refused, Took, due_for_test, parts_of}
+use Rattle.tool_core.specs.Due.{IsDue, Took, call_of, due_for_test, parts_of}
 use Rattle.tool_core.specs.Texts.{IsJudged, IsOrdered, IsSkewText, IsVerdictText, IsWitnessed, options_of}
 use Rattle.tool_core.specs.Showing.{IsShowingText}
 use Rattle.tool_core.specs.declared.words.Command.{Command}
@@ -79,7 +79,7 @@ pub record Ran (command : Command) (input : List ℕ) (done : Closed) : Type 0 w
 
 -- what a refusal of an input leaves on the field: no step, or memory ran out after a run
 abbrev pub IsStillOrRan : Command → List ℕ → Closed → ToolStatus → Type 0
-IsStillOrRan command input done status = IsStill done ⊎ ((status ≡ Core Memory) × Ran command input done)
+IsStillOrRan command input done status = IsStillOr Core done (Ran command input done) status
 
 -- ---- the call
 
@@ -99,23 +99,12 @@ pub record RanOut (words : List (List ℕ)) (old new : View) (done : Closed) : T
 
 -- what a refusal leaves on the field
 abbrev pub Leaves : List (List ℕ) → View → View → Closed → ToolStatus → Type 0
-Leaves words old new done status = IsStill done ⊎ ((status ≡ Core Memory) × RanOut words old new done)
-
--- a text was written, and the status says whether all of it came onto the sink
-abbrev pub WroteAsTool : ToolStatus → View → View → List ℕ → Type 0
-WroteAsTool status old new text = ((status ≡ Core Whole) × Appends old.bytes new.bytes text)
-    ⊎ ((status ≡ Core WriteFault) × Rose old.faults new.faults × AppendsPart old.bytes new.bytes text)
+Leaves words old new done status = IsStillOr Core done (RanOut words old new done) status
 
 -- How a call may end: with a refusal, which leaves `out` untouched, with the whole text, or with a part of it.
-pub data Ended (words : List (List ℕ)) (old new : View) (done : Closed) (out_old out_new : View)
-    (untouched : Type 0) : ToolStatus → Type 0 where
-  ended_refused : (status : ToolStatus) → Refused words old new status → Leaves words old new done status → untouched
-      → Ended words old new done out_old out_new untouched status
-  ended_whole : (text : List ℕ) → Answers words old new done text → Appends out_old.bytes out_new.bytes text
-      → Ended words old new done out_old out_new untouched (Core Whole)
-  ended_part : (text : List ℕ) → Answers words old new done text → Rose out_old.faults out_new.faults
-      → AppendsPart out_old.bytes out_new.bytes text
-      → Ended words old new done out_old out_new untouched (Core WriteFault)
+abbrev pub Ended : List (List ℕ) → View → View → Closed → View → View → Type 0 → ToolStatus → Type 0
+Ended words old new done out_old out_new untouched status = EndedCall (call_of words old new)
+    (Answers words old new done) (RanOut words old new done) done out_old out_new untouched status
 
 -- the words are this command's, and the source tells that it has this input left
 pub record Told (words : List (List ℕ)) (old : View) (command : Command) (input : List ℕ) : Type 0 where
@@ -130,9 +119,8 @@ Completes words old new out_old out_new status = (command : Command) (input : Li
     → (status ≡ Core Whole) ⊎ (status ≡ Core Memory)
 
 -- The words are no command exactly where that is answered, and it yields to want of memory.
-pub record IsUsage (words : List (List ℕ)) (status : ToolStatus) : Type 0 where
-  pub only : status ≡ Core Usage → command_of words ≡ None
-  pub each : command_of words ≡ None → (status ≡ Core Usage) ⊎ (status ≡ Core Memory)
+abbrev pub IsUsage : List (List ℕ) → ToolStatus → Type 0
+IsUsage words status = IsUsageOf Core (command_of words) status
 
 -- The refusal that is due for the input is answered, and it yields to want of memory and to a fault of reading.
 abbrev pub AnswersDue : List (List ℕ) → View → View → ToolStatus → Type 0

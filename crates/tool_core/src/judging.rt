@@ -1,6 +1,5 @@
 //! The command `judge`: whether the events of a section are a legal run of the test.
-ghost use Rattle.std.specs.Prelude.{◌≡◌, ◌+◌, ◌<◌, ◌≤◌, ◌^◌, ◌⊎◌, codes, length, map, IfOk, IfErr, None, Some, string_bytes};
-ghost use Rattle.report_text.specs.Words.{number_line};
+ghost use Rattle.std.specs.Prelude.{◌≡◌, ◌+◌, ◌<◌, ◌≤◌, ◌^◌, ◌⊎◌, length, map, IfOk, IfErr, None, Some, string_bytes};
 ghost use Rattle.run_judge.specs.Judgement.{event_of, judgement_of};
 ghost use Rattle.run_text.specs.Events.{events_of};
 ghost use Rattle.run_text.specs.Sections.{seen};
@@ -8,6 +7,7 @@ ghost use Rattle.tool_core.specs.Due.{due_for_lines};
 ghost use Rattle.tool_core.specs.Texts.{IsJudged, fault_word, judgement_line, wrong_line};
 ghost use Rattle.perp_base.specs.declared.limits.TheConstants.{MOST_ITERATIONS};
 
+use crate::number_text::number_text;
 use crate::status::ToolStatus;
 use perp_base::NoMemory;
 use report_text::Status;
@@ -30,14 +30,6 @@ fn fault_word_of(fault: JudgeFault) -> &'static str
     }
 }
 
-#[tactic(auto, unfolding(report_text::specs::Words::number_line))]
-fn legal_text(alloc: Global, count: usize) -> Result<String, NoMemory>
-    ensures { IfOk result (λ text. string_bytes text ≡ number_line (codes "Legal") count) }
-{
-    let text = format!(in alloc; "Legal {count}\n")?;
-    Ok(text)
-}
-
 #[tactic(auto, unfolding(crate::specs::Texts::wrong_line))]
 fn wrong_text(alloc: Global, event: u64, fault: JudgeFault) -> Result<String, NoMemory>
     ensures { IfOk result (λ text. string_bytes text ≡ wrong_line event fault) }
@@ -53,7 +45,7 @@ fn judgement_text(alloc: Global, count: usize, judgement: &Judgement) -> Result<
     ensures { IfOk result (λ text. string_bytes text ≡ judgement_line count judgement.now) }
 {
     match judgement {
-        Judgement::Legal => legal_text(alloc, count),
+        Judgement::Legal => number_text(alloc, "Legal", count as u64),
         Judgement::Wrong { event, fault } => wrong_text(alloc, *event, *fault),
     }
 }

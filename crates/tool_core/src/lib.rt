@@ -11,9 +11,9 @@
 #![tactic(auto)]
 
 mod answer;
-mod deliver;
 mod judging;
 mod laws;
+mod number_text;
 mod ordering;
 mod parts;
 mod reasons;

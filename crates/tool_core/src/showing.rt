@@ -1,14 +1,14 @@
 //! The command `show`: a run in which a conjunction of the condition holds, or why none is given.
-ghost use Rattle.std.specs.Prelude.{◌≡◌, ◌<◌, ◌⊎◌, codes, length, IfOk, IfErr, MatchOption, None, Some, option_map, string_bytes};
+ghost use Rattle.std.specs.Prelude.{◌≡◌, ◌<◌, ◌⊎◌, length, IfOk, IfErr, MatchOption, None, Some, option_map, string_bytes};
 ghost use Rattle.seq_conv.specs.Numbers.{AreOf};
 ghost use Rattle.profile_check.specs.Profile.{profile_of};
-ghost use Rattle.report_text.specs.Words.{number_line};
 ghost use Rattle.verdict.specs.Verdicts.{HasCycle};
 ghost use Rattle.decision.specs.Shown.{IsOrdered};
 ghost use Rattle.program_edge.specs.Form.{due_for_atoms};
 ghost use Rattle.tool_core.specs.Status.{HasToolKind};
 ghost use Rattle.tool_core.specs.Showing.{IsFirstShown, IsShowingText, IsShownBy, NoneIsShown, unshown_text_of};
 
+use crate::number_text::number_text;
 use crate::reasons::{Unshown, reasons_of, reasons_text};
 use crate::status::ToolStatus;
 use crate::witnessing::run_text;
@@ -63,20 +63,16 @@ fn first_shown(
     Ok(None)
 }
 
-#[tactic(auto, unfolding(report_text::specs::Words::number_line))]
-fn undecided_text(alloc: Global, conjunction: u32) -> Result<String, NoMemory>
-    ensures { IfOk result (λ text. string_bytes text ≡ number_line (codes "Undecided") conjunction) }
-{
-    let text = format!(in alloc; "Undecided {conjunction}\n")?;
-    Ok(text)
-}
-
 fn unshown_text(alloc: Global, unshown: &Unshown) -> Result<String, NoMemory>
     ensures { IfOk result (λ text. string_bytes text ≡ unshown_text_of unshown.now) }
 {
     match unshown {
         Unshown::Forbidden(reasons) => reasons_text(alloc, reasons),
-        Unshown::Undecided { conjunction } => undecided_text(alloc, *conjunction),
+        Unshown::Undecided { conjunction } => number_text(
+            alloc,
+            "Undecided",
+            u64::from(*conjunction),
+        ),
     }
 }
 

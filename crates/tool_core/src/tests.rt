@@ -46,6 +46,15 @@ const TWO_WRITERS: &str =
 const BUSY: &str =
     "X86 BUSY\n{ x=0; y=0; }\n P0 | P1 ;\n MOV [x],$1 | MOV EAX,[x] ;\n MOV [y],$1 | MOV [y],$2 ;\n MOV EAX,[y] | MOV EBX,[y] ;\nexists (0:EAX=0)\n";
 
+const USAGE: &str = "perple: usage: perple COMMAND [N] [OPTIONS]\n";
+
+const NO_SECTION: &str = "perple: no section\n";
+
+const MANY_EVENTS: &str = "perple: limit events 1000000\n";
+
+/// The first line of a section after `SB`.
+const LINE_8: &str = "perple: section line 8\n";
+
 /// The words of a line, which stand between single spaces; an empty line has none.
 fn words_of(alloc: Global, line: &str) -> Result<Vec<String>, Fail> {
     let mut words = Vec::new(alloc);

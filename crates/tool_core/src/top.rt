@@ -5,11 +5,10 @@ ghost use Rattle.tool_core.specs.Status.{tool_line};
 ghost use Rattle.tool_core.specs.Top.{Ended, Completes, IsUsage, RunFits, WritesWhole, WritesPart, ReadsToEnd, KeepsSource, AnswersDue, AnswersTooLong, IsField, SuitsCommand};
 
 use crate::answer::answer;
-use crate::deliver::deliver;
 use crate::status::ToolStatus;
 use perp_base::{Sink, Source};
 use perp_loop::Gate;
-use program_edge::{Answered, Outcome, put_line};
+use program_edge::{Answered, Outcome, deliver, put_line};
 use std::alloc::Global;
 use std::thread::Threads;
 use tso_words::Field;

@@ -1,12 +1,12 @@
 //! The command `verdict`: a cycle for each conjunction of the condition, or the first conjunction that has none.
-ghost use Rattle.std.specs.Prelude.{◌≡◌, ◌++◌, ◌⊎◌, codes, map, IfOk, IfErr, OnOk, None, Some, option_map, string_bytes};
+ghost use Rattle.std.specs.Prelude.{◌≡◌, ◌++◌, ◌⊎◌, map, IfOk, IfErr, OnOk, None, Some, option_map, string_bytes};
 ghost use Rattle.std.specs.List.{flat_map};
 ghost use Rattle.profile_check.specs.Profile.{profile_of};
-ghost use Rattle.report_text.specs.Words.{number_line};
 ghost use Rattle.program_edge.specs.Form.{due_for_atoms};
 ghost use Rattle.tool_core.specs.Status.{HasToolKind};
 ghost use Rattle.tool_core.specs.Texts.{IsVerdictText, cycle_line, cycle_lines, forbidden_text, node_text, verdict_text_of};
 
+use crate::number_text::number_text;
 use crate::status::ToolStatus;
 use perp_base::NoMemory;
 use profile_check::Checked;
@@ -70,20 +70,12 @@ fn cycles_text(alloc: Global, cycles: &[Vec<Node>]) -> Result<String, NoMemory>
     Ok(out)
 }
 
-#[tactic(auto, unfolding(report_text::specs::Words::number_line))]
-fn open_text(alloc: Global, conjunction: u32) -> Result<String, NoMemory>
-    ensures { IfOk result (λ text. string_bytes text ≡ number_line (codes "Open") conjunction) }
-{
-    let text = format!(in alloc; "Open {conjunction}\n")?;
-    Ok(text)
-}
-
 fn verdict_text(alloc: Global, verdict: &Verdict) -> Result<String, NoMemory>
     ensures { IfOk result (λ text. string_bytes text ≡ verdict_text_of verdict.now) }
 {
     match verdict {
         Verdict::Forbidden(cycles) => cycles_text(alloc, cycles),
-        Verdict::Open { conjunction } => open_text(alloc, *conjunction),
+        Verdict::Open { conjunction } => number_text(alloc, "Open", u64::from(*conjunction)),
     }
 }
 

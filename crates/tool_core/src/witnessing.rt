@@ -1,10 +1,9 @@
 //! The command `witness`: a run of x86-TSO that has the logs of a run in threads.
-ghost use Rattle.std.specs.Prelude.{◌≡◌, ◌≤◌, ◌++◌, ◌⊎◌, codes, IfOk, IfErr, List, None, OnOk, Some, string_bytes};
+ghost use Rattle.std.specs.Prelude.{◌≡◌, ◌≤◌, ◌++◌, ◌⊎◌, IfOk, IfErr, List, None, OnOk, Some, string_bytes};
 ghost use Rattle.std.specs.List.{flat_map};
 ghost use Rattle.tso_machine.specs.Event.{Event};
 ghost use Rattle.seq_conv.specs.Numbers.{AreOf};
 ghost use Rattle.tso_machine.specs.Run.{IsRunOf};
-ghost use Rattle.report_text.specs.Words.{number_line};
 ghost use Rattle.run_judge.specs.Line.{line_of};
 ghost use Rattle.run_witness.specs.Order.{AreLogsFor, HasLogs, HasWriters};
 ghost use Rattle.program_edge.specs.Field.{IsStill, SomeRunFits};
@@ -14,6 +13,7 @@ ghost use Rattle.run_text.specs.Runs.{run_text_of};
 ghost use Rattle.tool_core.specs.Texts.{IsWitnessed, IsWitnessOf, options_of};
 ghost use Rattle.perp_base.specs.declared.limits.TheConstants.{MOST_ITERATIONS};
 
+use crate::number_text::number_text;
 use crate::running::options_of;
 use crate::status::ToolStatus;
 use crate::writers::witness_refusal;
@@ -40,20 +40,12 @@ fn push_events(out: &mut String, alloc: Global, events: &[RunEvent]) -> Result<(
     Ok(())
 }
 
-#[tactic(auto, unfolding(report_text::specs::Words::number_line))]
-fn section_line(alloc: Global, n: u32) -> Result<String, NoMemory>
-    ensures { IfOk result (λ text. string_bytes text ≡ number_line (codes "%events") n) }
-{
-    let text = format!(in alloc; "%events {n}\n")?;
-    Ok(text)
-}
-
 /// A section that tells a run.
 #[tactic(auto, unfolding(run_text::specs::Runs::run_text_of))]
 pub fn run_text(alloc: Global, n: u32, events: &[RunEvent]) -> Result<String, NoMemory>
     ensures { IfOk result (λ text. string_bytes text ≡ run_text_of n events.now) }
 {
-    let mut out = section_line(alloc, n)?;
+    let mut out = number_text(alloc, "%events", u64::from(n))?;
     push_events(&mut out, alloc, events)?;
     Ok(out)
 }

@@ -170,22 +170,8 @@ const UNSHOWN: [(&str, &str, &str, u8, &str, &str); 11] = [
         "",
         "perple: line 7: kind 12 Trailing\n",
     ),
-    (
-        "show x",
-        SB,
-        "",
-        2,
-        "",
-        "perple: usage: perple COMMAND [N] [OPTIONS]\n",
-    ),
-    (
-        "shows",
-        SB,
-        "",
-        2,
-        "",
-        "perple: usage: perple COMMAND [N] [OPTIONS]\n",
-    ),
+    ("show x", SB, "", 2, "", USAGE),
+    ("shows", SB, "", 2, "", USAGE),
 ];
 
 #[test]

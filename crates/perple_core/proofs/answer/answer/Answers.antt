@@ -1,4 +1,4 @@
-use Rattle.perple_core.specs.Due.Refused.{no_memory}
+use Rattle.program_edge.specs.Ending.Refused.{no_memory}
 use Rattle.perple_core.proofs.Refusals.{ran_or_still}
 use Rattle.perple_core.proofs.answer.answer.Goals as goal
 

@@ -1,6 +1,6 @@
 use Rattle.std.proofs.Common.{rules, refl}
 use Rattle.std.proofs.lemmas.Result.{err_from_is_err_and}
-use Rattle.perple_core.specs.Due.Refused.{no_memory, no_command}
+use Rattle.program_edge.specs.Ending.Refused.{no_memory, no_command}
 use Rattle.perple_core.proofs.Refusals.{refused_from_input, refused_from_text}
 use Rattle.perple_core.proofs.ask.ask.Goals as goal
 

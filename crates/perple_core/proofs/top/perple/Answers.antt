@@ -1,26 +1,29 @@
 use Rattle.std.proofs.Common.{◌∙◌}
-use Rattle.perple_core.proofs.Endings.{ended_from, usage_of, completes_of, ends_of, due_of, too_long_of, field_of, whole_of, part_of}
+use Rattle.program_edge.proofs.Endings.{completes_of, due_of, ended_from, too_long_of, usage_of}
+use Rattle.perple_core.proofs.Endings.{ends_of, field_of, laws, whole_of, part_of}
 use Rattle.perple_core.proofs.Headlines.{reads_of, fits_of, texts_of}
 use Rattle.perple_core.proofs.Demos.{demo_completes_of}
 use Rattle.perple_core.proofs.top.perple.Goals as goal
 
 pub returns-clause-ended : goal.returns-clause-ended
 returns-clause-ended g c =
-    ended_from _ _ _ _ _ _ _ c.answer-text.result.text _ c.answer-text.ensures.ok c.answer-text.ensures.err
+    ended_from c.answer-text.result.text _ c.answer-text.ensures.ok c.answer-text.ensures.err
     c.answer-text.ensures.done
     c.deliver-status.ensures.refused c.deliver-status.ensures.text
 
 pub returns-clause-usage : goal.returns-clause-usage
-returns-clause-usage g c = usage_of _ _ _ _ _ _ _ _ (returns-clause-ended g c)
+returns-clause-usage g c = usage_of (laws _ _ _ _) _ (returns-clause-ended g c)
 
 pub returns-clause-complete : goal.returns-clause-complete
-returns-clause-complete g c = completes_of _ _ _ _ _ _ _ _ (returns-clause-ended g c)
+returns-clause-complete g c =
+    λ command text is told. completes_of (laws _ _ _ _) _ (returns-clause-ended g c) command text (is, told)
 
 pub returns-clause-read : goal.returns-clause-read
 returns-clause-read g c = ends_of _ _ _ _ _ _ _ _ (returns-clause-ended g c)
 
 pub returns-clause-due : goal.returns-clause-due
-returns-clause-due g c = due_of _ _ _ _ _ _ _ _ (returns-clause-ended g c)
+returns-clause-due g c =
+    λ command text refusal is told. due_of (laws _ _ _ _) _ (returns-clause-ended g c) command text refusal (is, told)
 
 pub returns-clause-field : goal.returns-clause-field
 returns-clause-field g c = field_of _ _ _ _ _ _ _ _ (returns-clause-ended g c)
@@ -32,7 +35,7 @@ pub returns-clause-part : goal.returns-clause-part
 returns-clause-part g c = part_of _ _ _ _ _ _ _ _ (returns-clause-ended g c)
 
 pub returns-clause-too_long : goal.returns-clause-too_long
-returns-clause-too_long g c = too_long_of _ _ _ _ _ _ _ _ (returns-clause-ended g c)
+returns-clause-too_long g c = too_long_of (laws _ _ _ _) _ (returns-clause-ended g c)
 
 pub returns-clause-reads : goal.returns-clause-reads
 returns-clause-reads g c = reads_of _ _ _ _ _ _ _ _ (returns-clause-ended g c)

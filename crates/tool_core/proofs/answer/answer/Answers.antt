@@ -1,5 +1,5 @@
 use Rattle.std.proofs.Common.{rules, refl}
-use Rattle.tool_core.specs.Due.Refused.{no_command, no_memory}
+use Rattle.program_edge.specs.Ending.Refused.{no_command, no_memory}
 use Rattle.tool_core.proofs.Answering.{refused_from_input, refused_of}
 use Rattle.tool_core.proofs.answer.answer.Goals as goal
 

@@ -1,30 +1,37 @@
 use Rattle.std.proofs.Common.{◌∙◌}
-use Rattle.tool_core.proofs.Endings.{completes_of, due_of, ended_from, ends_of, field_of, fits_of, kept_of, part_of, suits_of, too_long_of, usage_of, whole_of}
+use Rattle.program_edge.proofs.Endings.{completes_of, due_of, ended_from, too_long_of, usage_of, usage_only}
+use Rattle.tool_core.proofs.Endings.{ends_of, field_of, fits_of, laws, part_of, suits_of, whole_of}
 use Rattle.tool_core.proofs.top.tool.Goals as goal
 
 pub returns-clause-ended : goal.returns-clause-ended
 returns-clause-ended g c =
-    ended_from _ _ _ _ _ _ _ c.answer-text.result.text _ c.answer-text.ensures.ok c.answer-text.ensures.err
+    ended_from c.answer-text.result.text _ c.answer-text.ensures.ok c.answer-text.ensures.err
     c.answer-text.ensures.done
     c.deliver-status.ensures.refused c.deliver-status.ensures.text
 
 pub returns-clause-usage : goal.returns-clause-usage
-returns-clause-usage g c = usage_of _ _ _ _ _ _ _ _ (returns-clause-ended g c)
+returns-clause-usage g c = usage_of (laws _ _ _ _) _ (returns-clause-ended g c)
 
 pub returns-clause-complete : goal.returns-clause-complete
-returns-clause-complete g c = completes_of _ _ _ _ _ _ _ _ (returns-clause-ended g c)
+returns-clause-complete g c =
+    λ command input told short none read.
+    completes_of (laws _ _ _ _) _ (returns-clause-ended g c) command input told (λ _. short) none (λ _. read)
 
 pub returns-clause-read : goal.returns-clause-read
 returns-clause-read g c = ends_of _ _ _ _ _ _ _ _ (returns-clause-ended g c)
 
 pub returns-clause-kept : goal.returns-clause-kept
-returns-clause-kept g c = kept_of _ _ _ _ _ _ _ _ (returns-clause-ended g c)
+returns-clause-kept g c = λ e. (usage_only (laws _ _ _ _) _ (returns-clause-ended g c) e).1
 
 pub returns-clause-due : goal.returns-clause-due
-returns-clause-due g c = due_of _ _ _ _ _ _ _ _ (returns-clause-ended g c)
+returns-clause-due g c =
+    λ command input refusal told short.
+    due_of (laws _ _ _ _) _ (returns-clause-ended g c) command input refusal told (λ _. short)
 
 pub returns-clause-too_long : goal.returns-clause-too_long
-returns-clause-too_long g c = too_long_of _ _ _ _ _ _ _ _ (returns-clause-ended g c)
+returns-clause-too_long g c =
+    λ command input told.
+    too_long_of (laws _ _ _ _) _ (returns-clause-ended g c) command input told.command_is tt told.told
 
 pub returns-clause-suits : goal.returns-clause-suits
 returns-clause-suits g c = suits_of _ _ _ _ _ _ _ _ (returns-clause-ended g c)
