@@ -41,6 +41,19 @@ fn location_read(test: &Test, reader: u32, column: u32) -> u32
     }
 }
 
+/// A condition from its parts.
+fn condition(reader: u32, column: u32, loc: u32, writer: u32, kind: CondKind) -> Cond
+    ensures { result ≡ record { reader = reader; column = column; loc = loc; writer = writer; kind = kind } }
+{
+    Cond {
+        reader,
+        column,
+        loc,
+        writer,
+        kind,
+    }
+}
+
 /// The condition of an atom of this kind.
 pub(crate) fn cond_of(test: &Test, sequences: &Sequences, kind: AtomKind) -> Cond
     requires test { IsTest test.now }
@@ -58,13 +71,7 @@ pub(crate) fn cond_of(test: &Test, sequences: &Sequences, kind: AtomKind) -> Con
             let loc = location_read(test, reader, column);
             let k = sequences.stores(loc);
             let a = sequences.rank(writer as usize, place as usize);
-            Cond {
-                reader,
-                column,
-                loc,
-                writer,
-                kind: CondKind::AtLeast { k, a },
-            }
+            condition(reader, column, loc, writer, CondKind::AtLeast { k, a })
         }
         AtomKind::Fr {
             reader,
@@ -73,13 +80,7 @@ pub(crate) fn cond_of(test: &Test, sequences: &Sequences, kind: AtomKind) -> Con
         } => {
             let loc = location_read(test, reader, column);
             let k = sequences.stores(loc);
-            Cond {
-                reader,
-                column,
-                loc,
-                writer,
-                kind: CondKind::Below { k },
-            }
+            condition(reader, column, loc, writer, CondKind::Below { k })
         }
         AtomKind::Exact {
             reader,
@@ -90,13 +91,7 @@ pub(crate) fn cond_of(test: &Test, sequences: &Sequences, kind: AtomKind) -> Con
             let loc = location_read(test, reader, column);
             let k = sequences.stores(loc);
             let a = sequences.rank(writer as usize, place as usize);
-            Cond {
-                reader,
-                column,
-                loc,
-                writer,
-                kind: CondKind::Exact { k, a },
-            }
+            condition(reader, column, loc, writer, CondKind::Exact { k, a })
         }
     }
 }
