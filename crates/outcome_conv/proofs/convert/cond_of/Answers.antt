@@ -25,7 +25,8 @@ rank-a-requires-clause-place c = (rf c.before.before).1.place
 pub returns-in-Rf : goal.returns-in-Rf
 returns-in-Rf c =
     let f = rf c.before.before.before.before in
-    c.condition.ensures ∙ rf_is c.args.test.now c.args.kind c.in-Rf.reader c.in-Rf.column c.in-Rf.writer c.in-Rf.place _ _ _ c.in-Rf.is
+    c.condition.ensures
+    ∙ rf_is c.args.test.now c.args.kind c.in-Rf.reader c.in-Rf.column c.in-Rf.writer c.in-Rf.place _ _ _ c.in-Rf.is
     c.location_read-loc.ensures
     (c.stores-k.ensures ∙ ap (λ x. length (stores_at c.args.sequences.now x)) c.location_read-loc.ensures ∙ f.0.count)
     (c.rank-a.ensures ∙ f.1.rank)
@@ -41,7 +42,8 @@ pub returns-in-Fr : goal.returns-in-Fr
 returns-in-Fr c =
     let f = fr_read c.args.test.now c.args.sequences.now c.args.kind c.in-Fr.reader c.in-Fr.column c.in-Fr.writer
     c.requires.test c.requires.sequences c.requires.kind c.in-Fr.is in
-    c.condition-in-Fr.ensures ∙ fr_is c.args.test.now c.args.kind c.in-Fr.reader c.in-Fr.column c.in-Fr.writer _ _ c.in-Fr.is
+    c.condition-in-Fr.ensures
+    ∙ fr_is c.args.test.now c.args.kind c.in-Fr.reader c.in-Fr.column c.in-Fr.writer _ _ c.in-Fr.is
     c.location_read-loc-in-Fr.ensures
     (c.stores-k-in-Fr.ensures ∙ ap (λ x. length (stores_at c.args.sequences.now x)) c.location_read-loc-in-Fr.ensures
     ∙ f.count)
@@ -66,7 +68,8 @@ rank-a-requires-in-Exact-clause-place c = (exact c.before.before).1.place
 pub returns-in-Exact : goal.returns-in-Exact
 returns-in-Exact c =
     let f = exact c.before.before.before.before in
-    c.condition-in-Exact.ensures ∙ exact_is c.args.test.now c.args.kind c.in-Exact.reader c.in-Exact.column c.in-Exact.writer c.in-Exact.place _ _ _
+    c.condition-in-Exact.ensures
+    ∙ exact_is c.args.test.now c.args.kind c.in-Exact.reader c.in-Exact.column c.in-Exact.writer c.in-Exact.place _ _ _
     c.in-Exact.is c.location_read-loc-in-Exact.ensures
     (c.stores-k-in-Exact.ensures ∙ ap (λ x. length (stores_at c.args.sequences.now x))
     c.location_read-loc-in-Exact.ensures ∙ f.0.count)
