@@ -329,11 +329,8 @@ oldest_first (v ∷ ws) w e = let k : v ≡ w = cc in ap (λ u. u ∷ ws) k
 
 drained_needs : (test : LitmusTest) (s : State) (e : Event) (k : Kind) → is_drain_kind k ≡ true → NeedsAs k test s e
     → slice_get (s.buffer e.thread) 0 ≡ Some (write_of test e)
-drained_needs test s e Push h n = cc
 drained_needs test s e Drain h n = n
-drained_needs test s e (Read v) h n = cc
-drained_needs test s e Fenced h n = cc
-drained_needs test s e (Exchanged v) h n = cc
+drained_needs test s e _ h n = cc
 
 pub drained_push : (test : LitmusTest) (before : List Event) (e : Event) (after : List Event)
     → Steps test initial (before ++ e ∷ after) → is_drain e ≡ true → HasPush e.thread e.place e.iteration before

@@ -13,45 +13,30 @@ use Rattle.verdict.specs.Edges.{is_barrier}
 
 pub push_no_drain : (k : Kind) → is_push_kind k ≡ true → is_drain_kind k ≡ false
 push_no_drain Push h = refl
-push_no_drain Drain h = cc
-push_no_drain (Read v) h = cc
-push_no_drain Fenced h = cc
-push_no_drain (Exchanged v) h = cc
+push_no_drain _ h = cc
 
 pub memory_no_push : (k : Kind) → is_memory_kind k ≡ true → is_push_kind k ≡ false
-memory_no_push Push h = cc
 memory_no_push Drain h = refl
-memory_no_push (Read v) h = cc
-memory_no_push Fenced h = cc
 memory_no_push (Exchanged v) h = refl
+memory_no_push _ h = cc
 
 pub out_writes : (b : Bool) (k : Kind) → comes_out_kind b k ≡ true → is_memory_kind k ≡ true
-out_writes b Push h = cc
 out_writes b Drain h = refl
-out_writes b (Read v) h = cc
-out_writes b Fenced h = cc
 out_writes b (Exchanged v) h = refl
+out_writes b _ h = cc
 
 pub memory_out : (k : Kind) → is_memory_kind k ≡ true → comes_out_kind true k ≡ true
-memory_out Push h = cc
 memory_out Drain h = refl
-memory_out (Read v) h = cc
-memory_out Fenced h = cc
 memory_out (Exchanged v) h = refl
+memory_out _ h = cc
 
 pub drain_memory : (k : Kind) → is_drain_kind k ≡ true → is_memory_kind k ≡ true
-drain_memory Push h = cc
 drain_memory Drain h = refl
-drain_memory (Read v) h = cc
-drain_memory Fenced h = cc
-drain_memory (Exchanged v) h = cc
+drain_memory _ h = cc
 
 pub in_pushes : (k : Kind) → goes_in_kind false k ≡ true → is_push_kind k ≡ true
 in_pushes Push h = refl
-in_pushes Drain h = cc
-in_pushes (Read v) h = cc
-in_pushes Fenced h = cc
-in_pushes (Exchanged v) h = cc
+in_pushes _ h = cc
 
 -- Actions.
 
@@ -68,10 +53,9 @@ is_storing Fence = false
 is_storing (Exchange loc written reg) = true
 
 pub stores_storing : (x : ℕ) (action : Instr) → is_store_to x action ≡ true → is_storing action ≡ true
-stores_storing x (Store loc written) h = refl
 stores_storing x (Load reg loc) h = cc
 stores_storing x Fence h = cc
-stores_storing x (Exchange loc written reg) h = refl
+stores_storing x _ h = refl
 
 -- the kind of event that an action gives, by what the action does
 pub record GivesKind (a : Instr) (k : Kind) : Type 0 where

@@ -69,17 +69,15 @@ pub taken_from : (test : LitmusTest) (e : Event) (before : List Event) (o : Orig
     → source_as k test e before ≡ Some o
     → FromBuffer test e.thread (event_location test e) before o ⊎ FromMemory test e.thread (event_location test e) k
     before o
-taken_from test e before o Push h = cc
-taken_from test e before o Drain h = cc
 taken_from test e before o (Read v) h =
     let t = e.thread in
     let x = event_location test e in
     read_case test t x (Read v) before o (last_that (is_pending test t x before) before) refl h
-taken_from test e before o Fenced h = cc
 taken_from test e before o (Exchanged v) h =
     let t = e.thread in
     let x = event_location test e in
     inr (memory_case test t x (Exchanged v) before o (last_that (is_memory_write test x) before) refl h (inr refl))
+taken_from test e before o _ h = cc
 
 -- what an atom says of its read's source
 pub record AtLeast (store : Site) (m : ℕ) (source : Option Origin) : Type 0 where
