@@ -1,7 +1,7 @@
 -- What is kept of a run, and what holds a thread back, as the code has it.
 use Rattle.std.proofs.Common.{◌≡◌, ℕ, zero, suc, None, Option, append-nil, ◌+◌, ◌<◌, ◌≤◌, ◌==◌, Bool, true, false, cond, ◌&&◌, ◌||◌, Some, List, [], ◌∷◌, ◌++◌, length, map, set, get_or, slice_get, replicate, refl, sym, ap, ◌∙◌, arith, subst, inl, inr, ◌⊎◌, eq-eqb, ne_eqb, get_or-set_other, get_or-set_same, length-set, unwrap_or, option_and_then}
 use Rattle.std.proofs.lemmas.Bool.{cases_eq}
-use Rattle.std.proofs.lemmas.List.{length-replicate, map-append}
+use Rattle.std.proofs.lemmas.List.{get_or-replicate, length-replicate, map-append}
 use Rattle.std.proofs.lemmas.Option.{unwrap_or-slice_get}
 use Rattle.std.specs.List.{AllByRecursion as Each, list_any}
 use Rattle.x86_subset.specs.Instr.{is_reading, is_store_to, location_of}
@@ -71,15 +71,10 @@ marks_new (suc k) (suc t) = marks_new k t
 
 -- The beginning.
 
-zeros_at : (words : List ℕ) (x : ℕ) → Each (λ z. z ≡ 0) words → get_or words x 0 ≡ 0
-zeros_at [] x h = refl
-zeros_at (w ∷ words) zero h = h.0
-zeros_at (w ∷ words) (suc x) h = zeros_at words x h.1
-
 pub course_begins : (test : LitmusTest) (kinds : List AtomKind) (ms : List Progress) (words : List ℕ)
-    (events : List Event) (k : ℕ) → ms ≡ replicate k new → k ≡ length test.bodies → length words ≡ 16
-    → Each (λ z. z ≡ 0) words → events ≡ [] → IsKept test kinds ms words events
-course_begins test kinds ms words events k is count long zeros none =
+    (events : List Event) (k : ℕ) → ms ≡ replicate k new → k ≡ length test.bodies → words ≡ replicate 16 0
+    → events ≡ [] → IsKept test kinds ms words events
+course_begins test kinds ms words events k is count zeros none =
     let same : marks_of ms ≡ fresh = ap marks_of is ∙ (λ i t. marks_new k t i) in
     let P : (ℕ → Mark) → Type 0 = λ f. Stage test kinds f [] in
     let Q : List Event → Type 0 = λ es. IsKept test kinds ms words es in
@@ -87,8 +82,8 @@ course_begins test kinds ms words events k is count long zeros none =
       stage = subst P (sym same) (stage_begins test kinds);
       count = ap length is
           ∙ length-replicate k new ∙ count;
-      long = long;
-      memory = λ x l. zeros_at words x zeros;
+      long = ap length zeros ∙ length-replicate {A = ℕ} 16 0;
+      memory = λ x l. ap (λ w. get_or w x 0) zeros ∙ get_or-replicate {A = ℕ} 16 x 0 0 l;
     })
 
 -- One event more.
