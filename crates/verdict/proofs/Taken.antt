@@ -4,7 +4,7 @@ use Rattle.std.proofs.lemmas.Bool.{and_parts, eqb-true, not-true, leb-true}
 use Rattle.std.specs.List.{AllByRecursion as Each, list_any}
 use Rattle.std.specs.Option.{option_or}
 use Rattle.x86_subset.specs.Test.{LitmusTest}
-use Rattle.tso_machine.specs.Event.{Event, Kind, Push, Drain, Read, Fenced, Exchanged, event_location, is_drain}
+use Rattle.tso_machine.specs.Event.{Event, Kind, Read, Exchanged, event_location, is_drain}
 use Rattle.seq_conv.specs.Sequence.{Origin, Site, in_iteration}
 use Rattle.perp_base.specs.Last.{last_that}
 use Rattle.tso_machine.specs.Source.{is_memory_kind, is_memory_write, is_pending, is_push, origin_of, same_store, source_as}

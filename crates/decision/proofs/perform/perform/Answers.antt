@@ -1,4 +1,4 @@
-use Rattle.std.proofs.Common.{◌≡◌, ◌<◌, ◌≤◌, ◌∙◌, [], ◌∷◌, ap, arith, length, length-set, map, sym}
+use Rattle.std.proofs.Common.{◌<◌, ◌∙◌, [], ◌∷◌, ap, arith, length, length-set, map, sym}
 use Rattle.std.proofs.lemmas.List.{map-append}
 use Rattle.x86_subset.specs.Test.{LitmusTest, body_of}
 use Rattle.seq_conv.specs.Sequence.{site_location}
