@@ -1,24 +1,17 @@
 -- What stands at home, for callers that lend and take back.
-use Rattle.std.proofs.Common.{eq-eqb, eqb, cond, ◌≡◌, ◌≢◌, ℕ, zero, suc, ◌<◌, List, [], ◌∷◌, ◌++◌, refl, sym, ap, ◌∙◌, subst, arith, append-nil}
+use Rattle.std.proofs.Common.{eq-eqb, eqb, cond, ◌≡◌, ◌≢◌, ℕ, ◌<◌, List, [], ◌∷◌, ◌++◌, refl, sym, ap, ◌∙◌, subst, append-nil}
 use mathlib.Core.Logic.{dite}
 use native.Mathlib.Decide.{ℕ_discrete}
 use Rattle.tso_words.specs.declared.step.Step.{Step}
 use Rattle.tso_words.specs.declared.step.Part.{Part}
 use Rattle.tso_words.specs.History.{thread_count, History, FindsAll, ArePartsOfOne, zeros, history_part, eight, list_at, memory_after}
 use Rattle.tso_words.specs.Views.{beside, others, one_part, no_steps, Stands, AllHome}
+use Rattle.tso_words.proofs.Eight.{below_eight}
 use Rattle.tso_words.proofs.Histories.{beside-append, history_part-cons}
 use Rattle.tso_words.proofs.Keeping.{beside-others_same, beside-others_else, beside-one_same, beside-one_else, list_at-eight}
 
 pub Stands-no_steps : (t : ℕ) → t < thread_count → Stands t no_steps []
-Stands-no_steps zero h = refl
-Stands-no_steps (suc zero) h = refl
-Stands-no_steps (suc (suc zero)) h = refl
-Stands-no_steps (suc (suc (suc zero))) h = refl
-Stands-no_steps (suc (suc (suc (suc zero)))) h = refl
-Stands-no_steps (suc (suc (suc (suc (suc zero))))) h = refl
-Stands-no_steps (suc (suc (suc (suc (suc (suc zero)))))) h = refl
-Stands-no_steps (suc (suc (suc (suc (suc (suc (suc zero))))))) h = refl
-Stands-no_steps (suc (suc (suc (suc (suc (suc (suc (suc t)))))))) h = absurd (omega arith)
+Stands-no_steps t h = below_eight (λ t. Stands t no_steps []) (refl, refl, refl, refl, refl, refl, refl, refl) t h
 
 pub AllHome-no_steps : AllHome no_steps
 AllHome-no_steps t low = ([], Stands-no_steps t low)

@@ -10,6 +10,7 @@ use Rattle.tso_words.specs.declared.step.TracedStep.{TracedStep}
 use Rattle.tso_words.specs.declared.step.Part.{Part}
 use Rattle.tso_words.specs.History.{thread_count, History, zeros, memory_after_step, Finds, history_part, ArePartsOfOne, eight, list_at}
 use Rattle.tso_words.specs.Views.{beside, together, grown, only, others, one_part, no_steps, HoldsOneHistory, Stands, AllHome, list_of, first_steps}
+use Rattle.tso_words.proofs.Eight.{below_eight}
 use Rattle.tso_words.proofs.Histories.{IsFlat-push, history_part-push, beside-append, together-push, together-set, before, after}
 
 -- a list of one element, with parts before and after it
@@ -268,15 +269,7 @@ pub opens : HoldsOneHistory zeros (no_steps ∷ [])
 opens = ([], (tt, refl), each, none)
   where
     each : (t : ℕ) → t < thread_count → beside t (together (no_steps ∷ [])) ≡ [] ∷ []
-    each zero h = refl
-    each (suc zero) h = refl
-    each (suc (suc zero)) h = refl
-    each (suc (suc (suc zero))) h = refl
-    each (suc (suc (suc (suc zero)))) h = refl
-    each (suc (suc (suc (suc (suc zero))))) h = refl
-    each (suc (suc (suc (suc (suc (suc zero)))))) h = refl
-    each (suc (suc (suc (suc (suc (suc (suc zero))))))) h = refl
-    each (suc (suc (suc (suc (suc (suc (suc (suc t)))))))) h = absurd (omega arith)
+    each t h = below_eight (λ t. beside t (together (no_steps ∷ [])) ≡ [] ∷ []) (refl, refl, refl, refl, refl, refl, refl, refl) t h
 
     none : (t : ℕ) → thread_count ≤ t → beside t (together (no_steps ∷ [])) ≡ []
     none t h =
@@ -301,15 +294,7 @@ eight_same f g h =
     ∷ h 6 (lit< tt) i ∷ h 7 (lit< tt) i ∷ []
 
 pub list_at-eight : (f : ℕ → List Step) (t : ℕ) → t < thread_count → list_at (eight f) t ≡ f t
-list_at-eight f zero h = refl
-list_at-eight f (suc zero) h = refl
-list_at-eight f (suc (suc zero)) h = refl
-list_at-eight f (suc (suc (suc zero))) h = refl
-list_at-eight f (suc (suc (suc (suc zero)))) h = refl
-list_at-eight f (suc (suc (suc (suc (suc zero))))) h = refl
-list_at-eight f (suc (suc (suc (suc (suc (suc zero)))))) h = refl
-list_at-eight f (suc (suc (suc (suc (suc (suc (suc zero))))))) h = refl
-list_at-eight f (suc (suc (suc (suc (suc (suc (suc (suc t)))))))) h = absurd (omega arith)
+list_at-eight f t h = below_eight (λ t. list_at (eight f) t ≡ f t) (refl, refl, refl, refl, refl, refl, refl, refl) t h
 
 -- at the end, where all numbers stand in one view
 pub closes : (words : List ℕ) (views : List (List Part)) (id : ℕ) (v : List Part) → HoldsOneHistory words views

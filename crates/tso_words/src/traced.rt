@@ -1,9 +1,9 @@
 //! A history that is stored, and a port that adds to it.
-ghost use Rattle.std.specs.Prelude.{◌≡◌, ◌+◌, ◌<◌, ◌≤◌, [], ◌∷◌, ◌++◌, length, refl, slice_index, slice_set, IfOk};
+ghost use Rattle.std.specs.Prelude.{◌≡◌, ◌+◌, ◌<◌, ◌≤◌, [], ◌∷◌, ◌++◌, length, refl, slice_index, IfOk};
 ghost use Rattle.std.proofs.Common.{◌∙◌, ap, append-nil, append_assoc, sym};
 ghost use Rattle.std.proofs.Math.Nat.{add-le-add, le_refl, le_trans};
 ghost use Rattle.std.proofs.lemmas.List.{map-append};
-ghost use Rattle.tso_words.specs.History.{word_count, thread_count, zeros, history_part, IsFlat};
+ghost use Rattle.tso_words.specs.History.{word_count, thread_count, zeros, history_part, memory_after_step, Finds, IsFlat};
 ghost use Rattle.tso_words.specs.Traces.{HasRoom, Continues, entry, entries};
 
 use crate::port::Port;
@@ -32,6 +32,18 @@ impl Model for Traced {
 
     ghost invariant = { λ t. IsFlat t.words t.steps.items × (length t.steps.items ≤ t.room)
         × (t.room ≤ vec_capacity t.steps) };
+}
+
+/// What a step writes.
+fn write(words: &mut [u64; WORD_COUNT], step: Step)
+    requires { Finds words.old step }
+    ensures { words.new ≡ memory_after_step words.old step }
+{
+    match step {
+        Step::Load { .. } => {}
+        Step::Store { loc, value } => words[loc as usize] = value,
+        Step::Swap { loc, new, .. } => words[loc as usize] = new,
+    }
 }
 
 impl Traced {
@@ -75,6 +87,19 @@ impl Traced {
         self.words[loc as usize]
     }
 
+    /// Takes a step that finds what the words hold.
+    fn take(&mut self, thread: u32, step: Step)
+        requires thread { thread < thread_count }
+        requires finds { Finds self.old.words step }
+        requires room { length self.old.history < self.old.room }
+        ensures history { self.new.history ≡ self.old.history ++ record { thread = thread; step = step } ∷ [] }
+        ensures room { self.new.room ≡ self.old.room }
+        ensures flat { IsFlat self.new.words self.new.history }
+    {
+        write(&mut self.words, step);
+        self.steps.push(TracedStep { thread, step }).unwrap();
+    }
+
     fn load(&mut self, thread: u32, loc: u32) -> u64
         requires thread { thread < thread_count }
         requires loc { loc < word_count }
@@ -85,8 +110,7 @@ impl Traced {
         ensures flat { IsFlat self.new.words self.new.history }
     {
         let value = self.words[loc as usize];
-        let step = Step::Load { loc, value };
-        self.steps.push(TracedStep { thread, step }).unwrap();
+        self.take(thread, Step::Load { loc, value });
         value
     }
 
@@ -99,9 +123,7 @@ impl Traced {
         ensures room { self.new.room ≡ self.old.room }
         ensures flat { IsFlat self.new.words self.new.history }
     {
-        self.words[loc as usize] = value;
-        let step = Step::Store { loc, value };
-        self.steps.push(TracedStep { thread, step }).unwrap();
+        self.take(thread, Step::Store { loc, value });
     }
 
     fn swap(&mut self, thread: u32, loc: u32, new: u64) -> u64
@@ -114,9 +136,7 @@ impl Traced {
         ensures flat { IsFlat self.new.words self.new.history }
     {
         let old = self.words[loc as usize];
-        self.words[loc as usize] = new;
-        let step = Step::Swap { loc, new, old };
-        self.steps.push(TracedStep { thread, step }).unwrap();
+        self.take(thread, Step::Swap { loc, new, old });
         old
     }
 }

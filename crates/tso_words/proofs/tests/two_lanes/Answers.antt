@@ -1,18 +1,14 @@
-use Rattle.std.proofs.Common.{◌≡◌, zero, suc, List, [], ◌++◌, refl, sym, ap, ◌∙◌, subst, arith}
+use Rattle.std.proofs.Common.{◌≡◌, List, [], ◌∷◌, ◌++◌, refl, sym, ap, ◌∙◌, subst}
 use Rattle.tso_words.specs.declared.step.Step.{Step}
-use Rattle.tso_words.specs.Views.{AllHome, others, one_part, no_steps}
+use Rattle.tso_words.specs.Views.{AllHome, beside, others, one_part, no_steps}
+use Rattle.tso_words.proofs.Eight.{below_eight}
 use Rattle.tso_words.proofs.tests.two_lanes.Goals as goal
 
 all_back : (a b : List Step) → AllHome ((others 1 (others 0 no_steps) ++ one_part 0 a) ++ one_part 1 b)
-all_back a b zero h = (a, refl)
-all_back a b (suc zero) h = (b, refl)
-all_back a b (suc (suc zero)) h = ([], refl)
-all_back a b (suc (suc (suc zero))) h = ([], refl)
-all_back a b (suc (suc (suc (suc zero)))) h = ([], refl)
-all_back a b (suc (suc (suc (suc (suc zero))))) h = ([], refl)
-all_back a b (suc (suc (suc (suc (suc (suc zero)))))) h = ([], refl)
-all_back a b (suc (suc (suc (suc (suc (suc (suc zero))))))) h = ([], refl)
-all_back a b (suc (suc (suc (suc (suc (suc (suc (suc t)))))))) h = absurd (omega arith)
+all_back a b t h =
+    let parts = (others 1 (others 0 no_steps) ++ one_part 0 a) ++ one_part 1 b in
+    below_eight (λ t. (steps : List Step) × (beside t parts ≡ steps ∷ []))
+    ((a, refl), (b, refl), ([], refl), ([], refl), ([], refl), ([], refl), ([], refl), ([], refl)) t h
 
 pub close-done-requires-clause-home : goal.close-done-requires-clause-home
 close-done-requires-clause-home g c =
