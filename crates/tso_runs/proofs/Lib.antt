@@ -8,4 +8,5 @@ pub mod OnePart
 pub mod Rest
 pub mod Runs
 pub mod Scheduled
+pub mod ThreadsLeft
 pub mod Turns
