@@ -11,7 +11,8 @@ use Rattle.tso_machine.specs.Event.{Event}
 use Rattle.tso_machine.specs.Machine.{State, Steps, Write, initial}
 use Rattle.tso_machine.specs.Part.{Slot, slots_of_loop}
 use Rattle.load_log.specs.Values.{Lists}
-use Rattle.tso_words.specs.History.{History, IsFlat, history_part}
+use Rattle.tso_words.proofs.Eight.{below_eight}
+use Rattle.tso_words.specs.History.{IsFlat, history_part}
 use Rattle.tso_words.specs.History as words
 use Rattle.tso_words.specs.Traces.{Continues, HasRoom, Trace, Tracing, entries}
 use Rattle.tso_words.specs.declared.step.Step.{Step}
@@ -31,7 +32,8 @@ use Rattle.perp_loop.proofs.Played.{entries_of, gained_is, next_left, same_turn,
 use Rattle.perp_loop.proofs.Replayed.{IsPlayer, Plays, TodoOf, live_are, plays_turn, sum_same, sum_swap, todo_of, walker_at}
 use Rattle.tso_runs.proofs.Rest.{IsRest}
 use Rattle.tso_runs.proofs.Runs.{FindsAll-back, memory_all}
-use Rattle.tso_runs.proofs.Scheduled.{live, named_has, next, start_good, start, started, threads_below, turn_of}
+use Rattle.tso_runs.proofs.Scheduled.{next, start_good, start, started, turn_of}
+use Rattle.tso_runs.proofs.ThreadsLeft.{live, named_has, threads_below}
 use Rattle.tso_machine.proofs.Slots.{loop_length}
 use Rattle.perp_loop.proofs.Stepping.{own}
 use Rattle.perp_loop.proofs.Taken.{rest_from_finishes}
@@ -209,15 +211,9 @@ module _ (job : Job) (schedule : Schedule) where
   }
     where
       all_true : (t : ℕ) → t < 8 → get_or (true ∷ true ∷ true ∷ true ∷ true ∷ true ∷ true ∷ true ∷ []) t false ≡ true
-      all_true zero l = refl
-      all_true (suc zero) l = refl
-      all_true (suc (suc zero)) l = refl
-      all_true (suc (suc (suc zero))) l = refl
-      all_true (suc (suc (suc (suc zero)))) l = refl
-      all_true (suc (suc (suc (suc (suc zero))))) l = refl
-      all_true (suc (suc (suc (suc (suc (suc zero)))))) l = refl
-      all_true (suc (suc (suc (suc (suc (suc (suc zero))))))) l = refl
-      all_true (suc (suc (suc (suc (suc (suc (suc (suc t)))))))) l = absurd (omega arith)
+      all_true t l = below_eight
+          (λ t. get_or (true ∷ true ∷ true ∷ true ∷ true ∷ true ∷ true ∷ true ∷ []) t false ≡ true)
+          (refl, refl, refl, refl, refl, refl, refl, refl) t l
 
       slots_are : (v : Walking) (t : ℕ) → v.test ≡ job.test → v.options ≡ job.options → v.thread ≡ t → v.made ≡ 0
           → slots_left v ≡ slots_of_loop (body_of job.test t) job.options.iterations

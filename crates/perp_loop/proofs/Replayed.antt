@@ -25,7 +25,8 @@ use Rattle.perp_loop.proofs.Crewed.{HasRead, someone, values_of_run, whole_of_ru
 use Rattle.tso_runs.proofs.Events.{updated-other, updated-same}
 use Rattle.tso_runs.proofs.Fitting.{scheduled_run}
 use Rattle.perp_loop.proofs.Played.{shared_history-append}
-use Rattle.tso_runs.proofs.Scheduled.{Continues, Ends, IsGood, after_all-append, all_none, at_end, buffer_then, continues, ends_here, front, good_then, live, named_some, next, part_other, part_own, range_each, scheduled_by, start, turn_of}
+use Rattle.tso_runs.proofs.Scheduled.{Continues, Ends, IsGood, all_none, at_end, buffer_then, continues, ends_here, front, good_then, next, scheduled_by, start, turn_of}
+use Rattle.tso_runs.proofs.ThreadsLeft.{after_all-append, live, named_some, part_other, part_own, range_each}
 use Rattle.tso_runs.specs.Own.{buffer_after}
 use Rattle.tso_runs.proofs.Turns.{AreOf, Doing, buffers_other}
 

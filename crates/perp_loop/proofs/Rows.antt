@@ -1,10 +1,9 @@
 -- One more member of a crew, in the loops that make, lend, take back and collect.
-use Rattle.std.proofs.Common.{◌≡◌, ◌≢◌, ⊎_elim, ℕ, zero, suc, ◌+◌, ◌<◌, ◌≤◌, List, [], ◌∷◌, ◌++◌, length, length-set, set, take, drop, get_or, None, Some, IsSome, IfSome, refl, sym, ap, ◌∙◌, subst, arith, get_or-set_same, get_or-set_other}
+use Rattle.std.proofs.Common.{◌≡◌, ◌≢◌, ⊎_elim, ℕ, ◌+◌, ◌<◌, ◌≤◌, List, [], ◌∷◌, ◌++◌, length, length-set, set, take, drop, get_or, None, Some, IsSome, IfSome, refl, sym, ap, ◌∙◌, subst, arith, get_or-set_same, get_or-set_other}
 use mathlib.Core.Logic.{dite}
 use native.Mathlib.Decide.{dec_lt, ℕ_discrete}
-use Rattle.std.specs.List.{AllZip}
 use Rattle.std.proofs.lemmas.Bool.{cases_lt}
-use Rattle.std.proofs.lemmas.List.{get_or_default, get_or_append_left, length-append}
+use Rattle.std.proofs.lemmas.List.{get_or_default, get_or_append_left, get_or_past, length-append}
 use Rattle.std.proofs.Math.Seq.{get_or-append_seam, take-append_seam}
 use Rattle.tso_words.specs.Seated.{TableId}
 use Rattle.tso_words.specs.Seats.{Lent}
@@ -103,15 +102,7 @@ all_home (p ∷ ps) parts h t small =
     (λ ge. ([], h.1 t (omega arith) small))
 
 pub list_at-past : (f : ℕ → List Step) (t : ℕ) → 8 ≤ t → list_at (eight f) t ≡ []
-list_at-past f zero h = absurd (omega arith)
-list_at-past f (suc zero) h = absurd (omega arith)
-list_at-past f (suc (suc zero)) h = absurd (omega arith)
-list_at-past f (suc (suc (suc zero))) h = absurd (omega arith)
-list_at-past f (suc (suc (suc (suc zero)))) h = absurd (omega arith)
-list_at-past f (suc (suc (suc (suc (suc zero))))) h = absurd (omega arith)
-list_at-past f (suc (suc (suc (suc (suc (suc zero)))))) h = absurd (omega arith)
-list_at-past f (suc (suc (suc (suc (suc (suc (suc zero))))))) h = absurd (omega arith)
-list_at-past f (suc (suc (suc (suc (suc (suc (suc (suc t)))))))) h = refl
+list_at-past f t past = get_or_past (eight f) t [] past
 
 pub lists_of : (members : List Enrolled) (home : List Part) (lists : List (List Step)) → HasHome members home
     → length members ≤ 8 → lists ≡ eight (λ t. list_of t home) → AreLists members lists

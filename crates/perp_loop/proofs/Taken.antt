@@ -263,6 +263,7 @@ module _ {test : LitmusTest} {table : Table} {options : Options} {t i p : ℕ} {
       pub takes_action : asks ≡ asks_drain drains.seed drains.thread drains.rate drains.taken
           → TakesTurn steps ready kept here port (walking test table options t m' buffer' log') port'
       takes_action asked =
+          let new = walking test table options t m' buffer' log' in
           let asks_now : asks ≡ asks_drain options.seed t options.rate m =
           asked ∙ ap (λ (d : Asking). asks_drain d.seed d.thread d.rate d.taken) sound.asking in
           let es = buffer.entries in
@@ -306,7 +307,7 @@ module _ {test : LitmusTest} {table : Table} {options : Options} {t i p : ℕ} {
           (steps-action test table t i p sound.numbers action v (drop d es) at ∙ ap (λ ws. steps_of test ws e)
           (sym drop_w) ∙ sym (append-nil (steps_of test (drop d writes) e)))
           ∙ sym (shared_steps-drains test t d writes (e ∷ []) own) in
-          let fewer : length (slots_left (walking test table options t m buffer log)) ≡ length (drop m' slots) + 1 =
+          let fewer : length (slots_left here) ≡ length (drop m' slots) + 1 =
           ap length left ∙ omega (arith, ap length left') in
           let long : length (shared_steps test writes turn)
           ≡ d + length (own_steps action (value_at table t p i) v (drop d es)) =
@@ -318,8 +319,7 @@ module _ {test : LitmusTest} {table : Table} {options : Options} {t i p : ℕ} {
           length-map buffer'.entries write_from ∙ ap (λ (b : Contents). length b.entries) makes.buffered in
           let weight = weight_of_action action (value_at table t p i) v i p (drop d es) in
           let actions = one_action ds e (all_drain t d writes) acts in
-          let takes : Takes (walking test table options t m buffer log) turn
-          (walking test table options t m' buffer' log') = record {
+          let takes : Takes here turn new = record {
             same = refl;
             made = omega (arith, next, actions);
             buffer = buffered ∙ sym (after_drains test t d writes (e ∷ []));
@@ -327,16 +327,15 @@ module _ {test : LitmusTest} {table : Table} {options : Options} {t i p : ℕ} {
                 ap (λ (l : Values). l.values) makes.logs ∙ ap (λ vs. log.values ++ vs)
                 (sym (values-drains t d writes (e ∷ []) ∙ values-event t i p action v));
             leads = λ rest f.
-                let r = rest_from_finishes (walking test table options t m' buffer' log') rest f in
+                let r = rest_from_finishes new rest f in
                 let r1 : IsRest test options t (drop (m + 1) slots) (own_after test (drop d writes) e) (m + 1) 0 rest =
                 subst (λ (T : Type 0). T) (λ i. IsRest test options t (left' i) (buffered i) (next i) 0 rest) r in
                 let r2 = rest_turn test options t slot (drop (m + 1) slots) writes m d e rest due few own fills agrees
                 r1 in
-                finishes_from_rest (walking test table options t m buffer log) (turn ++ rest)
+                finishes_from_rest here (turn ++ rest)
                 (subst (λ ss. IsRest test options t ss writes m 0 (turn ++ rest)) (sym left) r2);
           } in
           let ends = can_end test table options t m' buffer' log' sound.limits.low_buffer own' in
-          let new = walking test table options t m' buffer' log' in
           let is_turn : (rest : List Event) → Finishes new rest → IsTurnBefore turn rest =
           λ rest f. action_turn ds e rest (all_drain t d writes) acts in
           record {
@@ -344,8 +343,8 @@ module _ {test : LitmusTest} {table : Table} {options : Options} {t i p : ℕ} {
             is_turn = is_turn;
             takes = takes;
             stands =
-                λ front. stands_more (walking test table options t m buffer log) new front turn takes
-                (λ front rest f cut. cut_after front turn rest cut (is_turn rest f)) ends;
+                λ front. stands_more here new front turn takes (λ front rest f cut. cut_after front turn rest cut
+                (is_turn rest f)) ends;
             can_end = ends;
             appends = subst (λ xs. Appends steps ready kept port port' xs) step makes.appends;
             owes_less =
@@ -403,20 +402,16 @@ module _ {test : LitmusTest} {table : Table} {options : Options} {t i p : ℕ} {
 
   pub sound_last : {buffer' : Contents} → buffer' ≡ record buffer { entries = drop 1 buffer.entries }
       → IsSound test table options t i p drains buffer' log
-  sound_last rest = record {
+  sound_last rest = subst (λ (b : Contents). IsSound test table options t i p drains b log) (sym rest) (record {
     is_test = sound.is_test;
     thread = sound.thread;
     limits = sound.limits;
     numbers = sound.numbers;
     position = sound.position;
     asking = sound.asking;
-    capacity = ap (λ (b : Contents). b.capacity) rest ∙ sound.capacity;
-    in_range =
-        subst (λ (b : Contents). AreInRange b.entries) (sym rest) (All-drop
-        (λ e. e.loc < 16) 1 buffer.entries sound.in_range);
-    own =
-        subst (λ (b : Contents). All (λ e. IsWriteOf test t (write_from e)) b.entries) (sym rest)
-        (All-drop (λ e. IsWriteOf test t (write_from e)) 1 buffer.entries sound.own);
+    capacity = sound.capacity;
+    in_range = All-drop (λ e. e.loc < 16) 1 buffer.entries sound.in_range;
+    own = All-drop (λ e. IsWriteOf test t (write_from e)) 1 buffer.entries sound.own;
     columns = sound.columns;
     room = sound.room;
-  }
+  })
