@@ -2,7 +2,7 @@
 use Rattle.std.proofs.Common.{◌≡◌, ◌∙◌, ◌++◌, Bool, cond, codes, true, false, refl, sym, ap, List, [], ◌∷◌, map, option_map, append-nil, Option, Some, None}
 use Rattle.std.specs.Prelude.{find, option_and_then, slice_get}
 use Rattle.std.specs.Str.{bytes_eq}
-use Rattle.std.proofs.lemmas.Bool.{or_parts}
+use Rattle.std.proofs.lemmas.Bool.{false_from_ne_true, or_parts}
 use Rattle.std.proofs.lemmas.List.{map-append}
 use Rattle.std.proofs.lemmas.Slice.Eq.{bytes_eq-Decides}
 use Rattle.clap.specs.Simple.{Shape, filled, new_rule, new_shape, with_index}
@@ -18,6 +18,10 @@ same_text a b e = (bytes_eq-Decides a b).0 e
 
 pub text_is : (a : Text) → bytes_eq a a ≡ true
 text_is a = (bytes_eq-Decides a a).1 refl
+
+-- a name is that of a text, and not another's
+pub differs : (text name other : Text) → name ≡ text → (name ≡ other → ⊥) → bytes_eq text other ≡ false
+differs text name other is not = false_from_ne_true (bytes_eq text other) (λ e. not (is ∙ same_text text other e))
 
 -- ---- rules, as clap builds them
 

@@ -6,12 +6,13 @@ use denote.Enum.Bare.{sameb}
 use Rattle.clap.specs.contracts.error.kind.ErrorKind.{the_type}
 use Rattle.clap.specs.declared.error.kind.ErrorKind.{ErrorKind}
 use Rattle.clap.specs.declared.error.kind.ErrorKind.TheVariants.{OutOfMemory}
-use Rattle.command_words.specs.Words.{is_stray}
+use Rattle.command_words.specs.Words.{is_stray, job_in}
 use Rattle.command_words.specs.declared.reading.WordsError.{WordsError}
 use Rattle.command_words.specs.declared.reading.WordsError.TheVariants.{Usage}
 use Rattle.command_words.proofs.CommandLemmas.{refused_job, taken_job}
 use Rattle.command_words.proofs.JobLemmas.{stray-map, stray_job}
 use Rattle.command_words.proofs.reading.read_job.Goals as goal
+use Rattle.command_words.proofs.reading.read_job.Goals.{Joined-matches}
 
 ok_job : {X : Type 0} (o p : Option X) (r : Result X WordsError) → o ≡ p → r ≡ ok_or o Usage → IfOk r (λ j. p ≡ Some j)
 ok_job {X = X} (Some j) p (Ok i) e f = let same : i ≡ j = cc in sym e ∙ ap Some (sym same)
@@ -32,27 +33,24 @@ returns-then-has_stray_word-clause-usage c = λ _.
     (sym (stray-map (λ w. string_bytes w) c.args.words.now) ∙ sym c.has_stray_word.ensures
     ∙ c.if-has_stray_word.true)
 
-pub returns-in-Ok-try_get_matches_from-clause-ok :
-    goal.returns-in-Ok-try_get_matches_from-clause-ok
-returns-in-Ok-try_get_matches_from-clause-ok c =
+-- the job of the matches is that of the words
+job_of : (c : Joined-matches)
+    → c.job_from.result ≡ job_in (texts c.args.names.now) (drop 1 (map (λ w. string_bytes w) c.args.words.now))
+job_of c =
     let no_stray : list_any is_stray (drop 1 (map (λ w. string_bytes w) c.args.words.now)) ≡ false =
     sym (stray-map (λ w. string_bytes w) c.args.words.now) ∙ sym c.has_stray_word.ensures ∙ c.if-has_stray_word.false in
-    let job = taken_job c.in-Ok.command c.as_str.result.now (texts c.args.names.now) c.requires.no_count
+    taken_job c.in-Ok.command c.as_str.result.now (texts c.args.names.now) c.requires.no_count
     (map (λ w. string_bytes w) c.args.words.now) c.in-Ok.ensures no_stray
     c.in-Ok-try_get_matches_from.matches c.job_from.result c.in-Ok-try_get_matches_from.ensures.kinds
-    c.in-Ok-try_get_matches_from.ensures.matches c.job_from.ensures in
-    ok_job c.job_from.result _ c.ok_or.result job c.ok_or.ensures.value
+    c.in-Ok-try_get_matches_from.ensures.matches c.job_from.ensures
 
-pub returns-in-Ok-try_get_matches_from-clause-usage :
-    goal.returns-in-Ok-try_get_matches_from-clause-usage
+pub returns-in-Ok-try_get_matches_from-clause-ok : goal.returns-in-Ok-try_get_matches_from-clause-ok
+returns-in-Ok-try_get_matches_from-clause-ok c =
+    ok_job c.job_from.result _ c.ok_or.result (job_of c) c.ok_or.ensures.value
+
+pub returns-in-Ok-try_get_matches_from-clause-usage : goal.returns-in-Ok-try_get_matches_from-clause-usage
 returns-in-Ok-try_get_matches_from-clause-usage c = λ e.
-    let no_stray : list_any is_stray (drop 1 (map (λ w. string_bytes w) c.args.words.now)) ≡ false =
-    sym (stray-map (λ w. string_bytes w) c.args.words.now) ∙ sym c.has_stray_word.ensures ∙ c.if-has_stray_word.false in
-    let job = taken_job c.in-Ok.command c.as_str.result.now (texts c.args.names.now) c.requires.no_count
-    (map (λ w. string_bytes w) c.args.words.now) c.in-Ok.ensures no_stray
-    c.in-Ok-try_get_matches_from.matches c.job_from.result c.in-Ok-try_get_matches_from.ensures.kinds
-    c.in-Ok-try_get_matches_from.ensures.matches c.job_from.ensures in
-    sym job ∙ no_job c.job_from.result c.ok_or.result c.ok_or.ensures.value e
+    sym (job_of c) ∙ no_job c.job_from.result c.ok_or.result c.ok_or.ensures.value e
 
 pub returns-clause-usage : goal.returns-clause-usage
 returns-clause-usage c = λ _.

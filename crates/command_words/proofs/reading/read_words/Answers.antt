@@ -1,12 +1,7 @@
-use Rattle.std.proofs.Common.{◌≡◌, ◌∙◌, codes, false, refl, ap, map, get_or, List, [], ◌∷◌, None, string_bytes}
-use Rattle.std.specs.Str.{bytes_eq}
-use Rattle.std.proofs.lemmas.Bool.{false_from_ne_true}
+use Rattle.std.proofs.Common.{◌≡◌, ◌∙◌, codes, refl, ap, map, get_or, List, [], ◌∷◌, None, string_bytes}
 use Rattle.command_words.specs.Words.{Text, command_of}
-use Rattle.command_words.proofs.Rows.{same_text}
+use Rattle.command_words.proofs.Rows.{differs}
 use Rattle.command_words.proofs.reading.read_words.Goals as goal
-
-differs : (text name other : Text) → name ≡ text → (name ≡ other → ⊥) → bytes_eq text other ≡ false
-differs text name other is not = false_from_ne_true (bytes_eq text other) (λ e. not (is ∙ same_text text other e))
 
 -- a first word that is no command's name names no command
 unnamed : {X : Type 0} (f : X → Text) (ws : List X) (d : X) (name : Text) → name ≡ f (get_or ws 0 d)
