@@ -1,5 +1,5 @@
 mod Numbers
-mod Rows
+pub mod Rows
 mod Turns
 mod Parse
 mod JobLemmas

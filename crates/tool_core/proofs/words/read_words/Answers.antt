@@ -1,13 +1,7 @@
-use Rattle.std.proofs.Common.{◌≡◌, ◌∙◌, ℕ, codes, false, refl, ap, map, get_or, List, [], ◌∷◌, None, string_bytes}
-use Rattle.std.specs.Str.{bytes_eq}
-use Rattle.std.proofs.lemmas.Bool.{false_from_ne_true}
-use Rattle.std.proofs.lemmas.Slice.Eq.{bytes_eq-Decides}
+use Rattle.std.proofs.Common.{◌≡◌, ◌∙◌, ℕ, codes, refl, ap, map, get_or, List, [], ◌∷◌, None, string_bytes}
+use Rattle.command_words.proofs.Rows.{differs}
 use Rattle.tool_core.specs.Words.{command_of}
 use Rattle.tool_core.proofs.words.read_words.Goals as goal
-
-differs : (text name other : List ℕ) → name ≡ text → (name ≡ other → ⊥) → bytes_eq text other ≡ false
-differs text name other is not =
-    false_from_ne_true (bytes_eq text other) (λ e. not (is ∙ (bytes_eq-Decides text other).0 e))
 
 -- a first word that is no command's name names no command
 unnamed : {X : Type 0} (f : X → List ℕ) (ws : List X) (d : X) (name : List ℕ) → name ≡ f (get_or ws 0 d)
