@@ -81,22 +81,6 @@ of_taken : (command : Command) (input : List ℕ) (status is : ToolStatus) → s
 of_taken command input status is e none (inl has) = absurd (none (subst (HasText Core) e has))
 of_taken command input status is e none (inr due) = subst (IsOfInput command) e (of_input command input status due)
 
-pub suits_of : (words : List (List ℕ)) (old new : View) (done : Closed) (out_old out_new : View) (untouched : Type 0)
-    (status : ToolStatus)
-    → Ended words old new done out_old out_new untouched status → SuitsCommand words status
-suits_of words old new done out_old out_new untouched status ended = record {
-  outside_profile = λ atom kind e.
-      let is = Core (OutsideProfile atom kind) in
-      let input = is_of_input Core (λ s. s ≡ is) (λ e. cc) (λ e. cc) (λ e. cc) is refl in
-      let t = taken_of (laws words old new done) (λ s. s ≡ is) (λ e. cc) (λ e. cc) (λ e. cc) (λ e. cc) status ended e in
-      counts_atoms words t.0 t.2.command_is (of_taken t.0 t.1 status is e input.text t.3);
-  frames = λ e.
-      let is = Core (Limit Frames) in
-      let input = is_of_input Core (λ s. s ≡ is) (λ e. cc) (λ e. cc) (λ e. cc) is refl in
-      let t = taken_of (laws words old new done) (λ s. s ≡ is) (λ e. cc) (λ e. cc) (λ e. cc) (λ e. cc) status ended e in
-      of_taken t.0 t.1 status is e input.text t.3;
-}
-
 -- ---- what is left after
 
 still_text : (command : Command) (test : LitmusTest) (parts : Split) (done : Closed) (text : List ℕ)
@@ -116,41 +100,6 @@ still_ran (Witness n) test done still ran = cc
 still_ran Verdict test done still ran = ran
 still_ran Show test done still ran = ran
 still_ran (Skew n) test done still ran = cc
-
-pub ends_of : (words : List (List ℕ)) (old new : View) (done : Closed) (out_old out_new : View) (untouched : Type 0)
-    (status : ToolStatus)
-    → Ended words old new done out_old out_new untouched status → ReadsToEnd new status
-ends_of words old new done out_old out_new untouched status ended = λ after.
-    let t = taken_of (laws words old new done) IsAfterReading (λ a. a) (λ a. a) (λ a. a) (λ a. a) status ended after in
-    t.2.gave.ended
-
-pub field_of : (words : List (List ℕ)) (old new : View) (done : Closed) (out_old out_new : View) (untouched : Type 0)
-    (status : ToolStatus)
-    → Ended words old new done out_old out_new untouched status → IsField words done status
-field_of words old new done out_old out_new untouched status ended = record {
-  other_command = λ other. still_of
-      (λ text a. still_text a.command a.answer.test a.answer.parts done text (other a.command a.took.command_is)
-      a.answer.right)
-      (λ out. absurd (still_ran out.command out.ran.test done (other out.command out.took.command_is) out.ran.ran))
-      status ended;
-  other_status = other_status_of status ended;
-}
-
--- ---- the answer
-
-pub whole_of : (words : List (List ℕ)) (old new : View) (done : Closed) (out_old out_new : View) (untouched : Type 0)
-    (status : ToolStatus)
-    → Ended words old new done out_old out_new untouched status → WritesWhole words old done out_old out_new status
-whole_of words old new done out_old out_new untouched status ended = λ command input before told told_out e.
-    let a = text_whole (laws words old new done) status ended before told_out e in
-    record { text = a.0; answer = answer_to_told words old new done command input a.0 told a.1; is_on = a.2 }
-
-pub part_of : (words : List (List ℕ)) (old new : View) (done : Closed) (out_old out_new : View) (untouched : Type 0)
-    (status : ToolStatus)
-    → Ended words old new done out_old out_new untouched status → WritesPart words old done out_old out_new status
-part_of words old new done out_old out_new untouched status ended = λ command input before told told_out e.
-    let a = text_part (laws words old new done) status ended before told_out e in
-    record { text = a.0; answer = answer_to_told words old new done command input a.0 told a.1; is_on = (a.2, a.3, a.4) }
 
 -- ---- runs
 
@@ -185,9 +134,54 @@ fits_by (Skew m) n input text read done e reads a =
     fits_for m n a.test read done e (whole_test input a.parts a.test read a.accepts.parts_are a.accepts.reading reads)
     a.right.some_run
 
-pub fits_of : (words : List (List ℕ)) (old new : View) (done : Closed) (out_old out_new : View) (untouched : Type 0)
-    (status : ToolStatus)
-    → Ended words old new done out_old out_new untouched status → RunFits words old done status
-fits_of words old new done out_old out_new untouched status ended = λ command n input test told runs has reading.
-    let a = answer_of (laws words old new done) status ended has in
-    fits_by command n input a.0 test done runs reading (answer_to_told words old new done command input a.0 told a.1)
+-- ---- what the clauses say
+
+module _ {words : List (List ℕ)} {old new : View} {done : Closed} {out_old out_new : View} {untouched : Type 0}
+    {status : ToolStatus} (ended : Ended words old new done out_old out_new untouched status) where
+  here : IsLawful (call_of words old new) (Answers words old new done) (Told words old)
+  here = laws words old new done
+
+  pub suits_of : SuitsCommand words status
+  suits_of = record {
+    outside_profile = λ atom kind e.
+        let is = Core (OutsideProfile atom kind) in
+        let input = is_of_input Core (λ s. s ≡ is) (λ e. cc) (λ e. cc) (λ e. cc) is refl in
+        let t = taken_of here (λ s. s ≡ is) (λ e. cc) (λ e. cc) (λ e. cc) (λ e. cc) status ended e in
+        counts_atoms words t.0 t.2.command_is (of_taken t.0 t.1 status is e input.text t.3);
+    frames = λ e.
+        let is = Core (Limit Frames) in
+        let input = is_of_input Core (λ s. s ≡ is) (λ e. cc) (λ e. cc) (λ e. cc) is refl in
+        let t = taken_of here (λ s. s ≡ is) (λ e. cc) (λ e. cc) (λ e. cc) (λ e. cc) status ended e in
+        of_taken t.0 t.1 status is e input.text t.3;
+  }
+
+  pub ends_of : ReadsToEnd new status
+  ends_of = λ after.
+      let t = taken_of here IsAfterReading (λ a. a) (λ a. a) (λ a. a) (λ a. a) status ended after in
+      t.2.gave.ended
+
+  pub field_of : IsField words done status
+  field_of = record {
+    other_command = λ other. still_of
+        (λ text a. still_text a.command a.answer.test a.answer.parts done text (other a.command a.took.command_is)
+        a.answer.right)
+        (λ out. absurd (still_ran out.command out.ran.test done (other out.command out.took.command_is) out.ran.ran))
+        status ended;
+    other_status = other_status_of status ended;
+  }
+
+  pub whole_of : WritesWhole words old done out_old out_new status
+  whole_of = λ command input before told told_out e.
+      let a = text_whole here status ended before told_out e in
+      record { text = a.0; answer = answer_to_told words old new done command input a.0 told a.1; is_on = a.2 }
+
+  pub part_of : WritesPart words old done out_old out_new status
+  part_of = λ command input before told told_out e.
+      let a = text_part here status ended before told_out e in
+      let answer = answer_to_told words old new done command input a.0 told a.1 in
+      record { text = a.0; answer = answer; is_on = (a.2, a.3, a.4) }
+
+  pub fits_of : RunFits words old done status
+  fits_of = λ command n input test told runs has reading.
+      let a = answer_of here status ended has in
+      fits_by command n input a.0 test done runs reading (answer_to_told words old new done command input a.0 told a.1)

@@ -18,7 +18,7 @@ returns-clause-complete g c =
     completes_of (laws _ _ _ _) _ (returns-clause-ended g c) command input told (λ _. short) none (λ _. read)
 
 pub returns-clause-read : goal.returns-clause-read
-returns-clause-read g c = ends_of _ _ _ _ _ _ _ _ (returns-clause-ended g c)
+returns-clause-read g c = ends_of (returns-clause-ended g c)
 
 pub returns-clause-kept : goal.returns-clause-kept
 returns-clause-kept g c = λ e. (usage_only (laws _ _ _ _) _ (returns-clause-ended g c) e).1
@@ -34,19 +34,19 @@ returns-clause-too_long g c =
     too_long_of (laws _ _ _ _) _ (returns-clause-ended g c) command input told.command_is tt told.told
 
 pub returns-clause-suits : goal.returns-clause-suits
-returns-clause-suits g c = suits_of _ _ _ _ _ _ _ _ (returns-clause-ended g c)
+returns-clause-suits g c = suits_of (returns-clause-ended g c)
 
 pub returns-clause-field : goal.returns-clause-field
-returns-clause-field g c = field_of _ _ _ _ _ _ _ _ (returns-clause-ended g c)
+returns-clause-field g c = field_of (returns-clause-ended g c)
 
 pub returns-clause-whole : goal.returns-clause-whole
-returns-clause-whole g c = whole_of _ _ _ _ _ _ _ _ (returns-clause-ended g c)
+returns-clause-whole g c = whole_of (returns-clause-ended g c)
 
 pub returns-clause-part : goal.returns-clause-part
-returns-clause-part g c = part_of _ _ _ _ _ _ _ _ (returns-clause-ended g c)
+returns-clause-part g c = part_of (returns-clause-ended g c)
 
 pub returns-clause-fits : goal.returns-clause-fits
-returns-clause-fits g c = fits_of _ _ _ _ _ _ _ _ (returns-clause-ended g c)
+returns-clause-fits g c = fits_of (returns-clause-ended g c)
 
 pub returns-clause-line : goal.returns-clause-line
 returns-clause-line g c = rw (c.bytes.ensures.value ∙ c.line.ensures) at c.put_line.ensures
