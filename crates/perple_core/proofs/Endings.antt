@@ -103,15 +103,6 @@ laws words old new done = record {
   told_one = λ command text taken told took. taken_text command old new text taken told.1 took.takes;
 }
 
-pub ends_of : (words : List (List ℕ)) (old new : View) (done : Closed) (out_old out_new : View) (untouched : Type 0)
-    (status : Status)
-    → Ended words old new done out_old out_new untouched status → ReadsToEnd words new status
-ends_of words old new done out_old out_new untouched status ended = λ command is none after.
-    let t = taken_of (laws words old new done) IsAfterReading (λ a. a) (λ a. a) (λ a. a) (λ a. a) status ended after in
-    let same : t.0 ≡ command = same_command words old new command t.0 t.1 is t.2 in
-    let all = (laws words old new done).took_all t.0 t.1 t.2 (ap demo_number same ∙ none) in
-    all.0.ended
-
 -- the text of another command than a run leaves the field still
 still_text : (words : List (List ℕ)) (command : Command) (test : LitmusTest) (done : Closed) (text : List ℕ)
     → command_of words ≡ Some command
@@ -120,16 +111,6 @@ still_text words (Run job) test done text is other right = absurd (other job is)
 still_text words (Replay job) test done text is other right = right.0
 still_text words Convert test done text is other right = right.0
 still_text words (Demo k) test done text is other right = right.0
-
-pub field_of : (words : List (List ℕ)) (old new : View) (done : Closed) (out_old out_new : View) (untouched : Type 0)
-    (status : Status)
-    → Ended words old new done out_old out_new untouched status → IsField words done status
-field_of words old new done out_old out_new untouched status ended = record {
-  other_command = λ other. still_of
-      (λ text a. still_text words a.command a.test done text a.accepts.took.command_is other a.right)
-      (λ ran. absurd (other ran.job ran.accepts.took.command_is)) status ended;
-  other_status = other_status_of status ended;
-}
 
 -- what was accepted is what the text reads as
 pub accepts_text : (words : List (List ℕ)) (old new : View) (done : Closed) (command : Command) (text answer : List ℕ)
@@ -153,17 +134,35 @@ accepts_text words old new done command text answer IsOn is told answers on =
       is_on = on;
     }
 
-pub whole_of : (words : List (List ℕ)) (old new : View) (done : Closed) (out_old out_new : View) (untouched : Type 0)
-    (status : Status)
-    → Ended words old new done out_old out_new untouched status → WritesWhole words old done out_old out_new status
-whole_of words old new done out_old out_new untouched status ended = λ command text before is told told_out e.
-    let a = text_whole (laws words old new done) status ended before told_out e in
-    accepts_text words old new done command text a.0 (λ t. out_new.bytes ≡ Some (before ++ t)) is told a.1 a.2
+-- ---- what the clauses say
 
-pub part_of : (words : List (List ℕ)) (old new : View) (done : Closed) (out_old out_new : View) (untouched : Type 0)
-    (status : Status)
-    → Ended words old new done out_old out_new untouched status → WritesPart words old done out_old out_new status
-part_of words old new done out_old out_new untouched status ended = λ command text before is told told_out e.
-    let a = text_part (laws words old new done) status ended before told_out e in
-    accepts_text words old new done command text a.0 (λ t. (n : ℕ) × (n < length t)
-    × (out_new.bytes ≡ Some (before ++ take n t))) is told a.1 (a.2, a.3, a.4)
+module _ {words : List (List ℕ)} {old new : View} {done : Closed} {out_old out_new : View} {untouched : Type 0}
+    {status : Status} (ended : Ended words old new done out_old out_new untouched status) where
+  here : IsLawful (call_of words old new) (Answers words old new done) (IsTold words old)
+  here = laws words old new done
+
+  pub ends_of : ReadsToEnd words new status
+  ends_of = λ command is none after.
+      let t = taken_of here IsAfterReading (λ a. a) (λ a. a) (λ a. a) (λ a. a) status ended after in
+      let same : t.0 ≡ command = same_command words old new command t.0 t.1 is t.2 in
+      let all = here.took_all t.0 t.1 t.2 (ap demo_number same ∙ none) in
+      all.0.ended
+
+  pub field_of : IsField words done status
+  field_of = record {
+    other_command = λ other. still_of
+        (λ text a. still_text words a.command a.test done text a.accepts.took.command_is other a.right)
+        (λ ran. absurd (other ran.job ran.accepts.took.command_is)) status ended;
+    other_status = other_status_of status ended;
+  }
+
+  pub whole_of : WritesWhole words old done out_old out_new status
+  whole_of = λ command text before is told told_out e.
+      let a = text_whole here status ended before told_out e in
+      accepts_text words old new done command text a.0 (λ t. out_new.bytes ≡ Some (before ++ t)) is told a.1 a.2
+
+  pub part_of : WritesPart words old done out_old out_new status
+  part_of = λ command text before is told told_out e.
+      let a = text_part here status ended before told_out e in
+      accepts_text words old new done command text a.0 (λ t. (n : ℕ) × (n < length t)
+      × (out_new.bytes ≡ Some (before ++ take n t))) is told a.1 (a.2, a.3, a.4)

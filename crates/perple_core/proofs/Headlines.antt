@@ -19,33 +19,6 @@ use Rattle.perple_core.specs.Top.{Ended, HasAnswer, IsTextOfRun}
 use Rattle.perple_core.proofs.Accepting.{none_due_has_kinds}
 use Rattle.perple_core.proofs.Endings.{accepts_text, laws, whole_of, part_of}
 
--- a run that ended whole, or with a fault of writing, has its answer
-run_answer : (words : List (List ℕ)) (old new : View) (done : Closed) (out_old out_new : View) (untouched : Type 0)
-    (status : Status)
-    → Ended words old new done out_old out_new untouched status → (job : Job) (bytes : List ℕ)
-    → IsRun words old job bytes → HasRun status
-    → HasAnswer (Run job) bytes done (λ _. Unit {0})
-run_answer words old new done out_old out_new untouched status ended = λ job bytes is has.
-    let a = answer_of (laws words old new done) status ended has in
-    accepts_text words old new done (Run job) bytes a.0 (λ _. Unit {0}) is.command_is is.told a.1 tt
-
-pub reads_of : (words : List (List ℕ)) (old new : View) (done : Closed) (out_old out_new : View) (untouched : Type 0)
-    (status : Status)
-    → Ended words old new done out_old out_new untouched status → RunReads words old status
-reads_of words old new done out_old out_new untouched status ended = λ job bytes is has.
-    let a : HasAnswer (Run job) bytes done (λ _. Unit {0}) = run_answer words old new done out_old out_new untouched
-    status ended job bytes is has in
-    (a.test, a.reading, none_due_has_kinds (Run job) a.test a.none_due)
-
-pub fits_of : (words : List (List ℕ)) (old new : View) (done : Closed) (out_old out_new : View) (untouched : Type 0)
-    (status : Status)
-    → Ended words old new done out_old out_new untouched status → RunFits words old done status
-fits_of words old new done out_old out_new untouched status ended = λ job bytes test is has reading.
-    let a : HasAnswer (Run job) bytes done (λ _. Unit {0}) = run_answer words old new done out_old out_new untouched
-    status ended job bytes is has in
-    subst (λ (t : LitmusTest). SomeRunFits t job.options done) (same_test bytes a.test test a.reading reading)
-    a.right.some_run
-
 -- the answer of a run is the text of each run that fits
 answer_is : (job : Job) (bytes : List ℕ) (test : LitmusTest) (done : Closed) (run : List Event) (IsOn : List ℕ → Type 0)
     → (a : HasAnswer (Run job) bytes done IsOn) → Reads bytes (Accepted test) → Fits test job.options done.lists run
@@ -56,20 +29,39 @@ answer_is job bytes test done run IsOn a reading fits =
     a.right in
     right.each run fits
 
-pub texts_of : (words : List (List ℕ)) (old new : View) (done : Closed) (out_old out_new : View) (untouched : Type 0)
-    (status : Status)
-    → Ended words old new done out_old out_new untouched status → RunText words old done out_old out_new status
-texts_of words old new done out_old out_new untouched status ended =
-    λ job bytes before test run is told_out reading fits. (
-      λ whole.
-          let a = whole_of words old new done out_old out_new untouched status ended
-          (Run job) bytes before is.command_is is.told told_out whole in
-          a.is_on ∙ ap (λ t. Some (before ++ t)) (answer_is job bytes test done run
-          (λ answer. out_new.bytes ≡ Some (before ++ answer)) a reading fits),
-      λ fault.
-          let a = part_of words old new done out_old out_new untouched status ended
-          (Run job) bytes before is.command_is is.told told_out fault in
-          subst (λ (t : List ℕ). (n : ℕ) × (n < length t) × (out_new.bytes ≡ Some (before ++ take n t)))
-          (answer_is job bytes test done run (λ answer. (n : ℕ) × (n < length answer)
-          × (out_new.bytes ≡ Some (before ++ take n answer))) a reading fits) a.is_on,
-    )
+-- ---- what the clauses say
+
+module _ {words : List (List ℕ)} {old new : View} {done : Closed} {out_old out_new : View} {untouched : Type 0}
+    {status : Status} (ended : Ended words old new done out_old out_new untouched status) where
+  -- a run that ended whole, or with a fault of writing, has its answer
+  run_answer : (job : Job) (bytes : List ℕ)
+      → IsRun words old job bytes → HasRun status
+      → HasAnswer (Run job) bytes done (λ _. Unit {0})
+  run_answer job bytes is has =
+      let a = answer_of (laws words old new done) status ended has in
+      accepts_text words old new done (Run job) bytes a.0 (λ _. Unit {0}) is.command_is is.told a.1 tt
+
+  pub reads_of : RunReads words old status
+  reads_of = λ job bytes is has.
+      let a : HasAnswer (Run job) bytes done (λ _. Unit {0}) = run_answer job bytes is has in
+      (a.test, a.reading, none_due_has_kinds (Run job) a.test a.none_due)
+
+  pub fits_of : RunFits words old done status
+  fits_of = λ job bytes test is has reading.
+      let a : HasAnswer (Run job) bytes done (λ _. Unit {0}) = run_answer job bytes is has in
+      subst (λ (t : LitmusTest). SomeRunFits t job.options done) (same_test bytes a.test test a.reading reading)
+      a.right.some_run
+
+  pub texts_of : RunText words old done out_old out_new status
+  texts_of =
+      λ job bytes before test run is told_out reading fits. (
+        λ whole.
+            let a = whole_of ended (Run job) bytes before is.command_is is.told told_out whole in
+            a.is_on ∙ ap (λ t. Some (before ++ t)) (answer_is job bytes test done run
+            (λ answer. out_new.bytes ≡ Some (before ++ answer)) a reading fits),
+        λ fault.
+            let a = part_of ended (Run job) bytes before is.command_is is.told told_out fault in
+            subst (λ (t : List ℕ). (n : ℕ) × (n < length t) × (out_new.bytes ≡ Some (before ++ take n t)))
+            (answer_is job bytes test done run (λ answer. (n : ℕ) × (n < length answer)
+            × (out_new.bytes ≡ Some (before ++ take n answer))) a reading fits) a.is_on,
+      )

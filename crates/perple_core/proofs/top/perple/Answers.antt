@@ -19,32 +19,32 @@ returns-clause-complete g c =
     λ command text is told. completes_of (laws _ _ _ _) _ (returns-clause-ended g c) command text (is, told)
 
 pub returns-clause-read : goal.returns-clause-read
-returns-clause-read g c = ends_of _ _ _ _ _ _ _ _ (returns-clause-ended g c)
+returns-clause-read g c = ends_of (returns-clause-ended g c)
 
 pub returns-clause-due : goal.returns-clause-due
 returns-clause-due g c =
     λ command text refusal is told. due_of (laws _ _ _ _) _ (returns-clause-ended g c) command text refusal (is, told)
 
 pub returns-clause-field : goal.returns-clause-field
-returns-clause-field g c = field_of _ _ _ _ _ _ _ _ (returns-clause-ended g c)
+returns-clause-field g c = field_of (returns-clause-ended g c)
 
 pub returns-clause-whole : goal.returns-clause-whole
-returns-clause-whole g c = whole_of _ _ _ _ _ _ _ _ (returns-clause-ended g c)
+returns-clause-whole g c = whole_of (returns-clause-ended g c)
 
 pub returns-clause-part : goal.returns-clause-part
-returns-clause-part g c = part_of _ _ _ _ _ _ _ _ (returns-clause-ended g c)
+returns-clause-part g c = part_of (returns-clause-ended g c)
 
 pub returns-clause-too_long : goal.returns-clause-too_long
 returns-clause-too_long g c = too_long_of (laws _ _ _ _) _ (returns-clause-ended g c)
 
 pub returns-clause-reads : goal.returns-clause-reads
-returns-clause-reads g c = reads_of _ _ _ _ _ _ _ _ (returns-clause-ended g c)
+returns-clause-reads g c = reads_of (returns-clause-ended g c)
 
 pub returns-clause-fits : goal.returns-clause-fits
-returns-clause-fits g c = fits_of _ _ _ _ _ _ _ _ (returns-clause-ended g c)
+returns-clause-fits g c = fits_of (returns-clause-ended g c)
 
 pub returns-clause-text : goal.returns-clause-text
-returns-clause-text g c = texts_of _ _ _ _ _ _ _ _ (returns-clause-ended g c)
+returns-clause-text g c = texts_of (returns-clause-ended g c)
 
 pub returns-clause-demo_complete : goal.returns-clause-demo_complete
 returns-clause-demo_complete g c = demo_completes_of _ _ _ _ _ _ _ _ (returns-clause-ended g c)
