@@ -2,9 +2,9 @@ use Rattle.std.proofs.Common.{◌<◌, ◌∙◌, [], ◌∷◌, ap, arith, leng
 use Rattle.std.proofs.lemmas.List.{map-append}
 use Rattle.x86_subset.specs.Test.{LitmusTest, body_of}
 use Rattle.seq_conv.specs.Sequence.{site_location}
+use Rattle.seq_conv.proofs.Numbering.{body_short}
 use Rattle.run_judge.specs.Judgement.{event_of}
 use Rattle.run_witness.proofs.Courses.{loud_words, quiet_words}
-use Rattle.run_witness.proofs.Fronts.{body_few}
 use Rattle.verdict.specs.Edges.{kinds_in}
 use Rattle.decision.specs.Course.{mark_after}
 use Rattle.decision.proofs.Courses.{course_step, done_here, step_less, value_written}
@@ -16,14 +16,14 @@ progress_after-own-requires-clause-done c =
     let t = c.args.event.thread in
     let d = done_here checked c.args.conjunction c.args.course.now t c.progress_of.result
     c.requires.course c.progress_of.ensures in
-    let b = body_few checked.test t c.test-test.ensures.checked.test in
+    let b = body_short checked.test t c.test-test.ensures.checked.test in
     omega arith
 
 pub progress_after-own-requires-clause-place : goal.progress_after-own-requires-clause-place
 progress_after-own-requires-clause-place c =
     let checked = c.args.checked.now in
     let t = c.args.event.thread in
-    let b = body_few checked.test t c.test-test.ensures.checked.test in
+    let b = body_short checked.test t c.test-test.ensures.checked.test in
     let p : c.args.event.place < length (body_of checked.test t) = c.requires.next.place in
     omega arith
 
