@@ -85,12 +85,10 @@ impl Counted {
         };
         let hits = row.count(known, from, to);
         if !hull(some).is_empty() {
-            *self = Counted {
-                from,
-                to,
-                stretches,
-                hits,
-            };
+            self.from = from;
+            self.to = to;
+            self.stretches = stretches;
+            self.hits = hits;
         }
         hits
     }

@@ -291,6 +291,7 @@ pub(crate) fn fitting_word(kind: CondKind, values: &[u64], at: usize) -> u64
 }
 
 /// Which of sixty-four values pass, by a bound that stays.
+#[inline(always)]
 pub(crate) fn values_word(kind: CondKind, values: &[u64], bound: u64, at: usize) -> u64
     requires kind { IsKind kind }
     requires at { at + 64 ≤ MOST_ITERATIONS }
