@@ -1,17 +1,17 @@
 -- Worked runs of schedules. Each is the only run of its test, options and schedule, by the law. Logs and histories are
 -- worked out by hand from the rules.
-use Rattle.std.proofs.Common.{◌≡◌, refl, ℕ, zero, suc, ◌+◌, ◌%◌, ◌^◌, ◌<◌, true, false, List, [], ◌∷◌, arith, le-ltb, lt-ltb, ne_eqb, lit<}
+use Rattle.std.proofs.Common.{◌≡◌, refl, ℕ, zero, suc, ◌+◌, ◌%◌, ◌^◌, ◌<◌, true, false, List, [], ◌∷◌, arith, le-ltb, lt-ltb, lit<}
 use Rattle.std.proofs.lemmas.Nat.{mod_below}
 use Rattle.std.proofs.lemmas.List.Elements.{All-from_recursion}
-use Rattle.x86_subset.specs.Test.{Code, LitmusTest}
-use Rattle.x86_subset.specs.declared.instr.Instr.{Instr}
+use Rattle.x86_subset.specs.Test.{LitmusTest}
 use Rattle.x86_subset.specs.declared.instr.Instr.TheVariants as instr
 use Rattle.x86_subset.specs.declared.instr.Reg.TheVariants.{Eax}
-use Rattle.x86_subset.specs.declared.test.Quantifier.TheVariants.{Exists}
-use Rattle.tso_machine.specs.Event.{Event, Kind, Push, Drain, Read}
+use Rattle.tso_machine.specs.Event.{Event, Push, Drain, Read}
 use Rattle.tso_machine.specs.Log.{log_of}
-use Rattle.tso_machine.specs.Machine.{after_all, initial}
+use Rattle.tso_machine.specs.Machine.{initial}
 use Rattle.tso_machine.specs.Part.{part_of}
+use Rattle.tso_machine.specs.Run.{IsRunOf}
+use Rattle.tso_machine.proofs.Worked.{at, drained_twice, relaxed, run_by, sb, test_of}
 use Rattle.store_buffer.specs.Generator.{asks_drain, generator_word}
 use Rattle.tso_words.specs.declared.step.Step.{Step}
 use Rattle.tso_words.specs.declared.step.Step.TheVariants.{Load, Store}
@@ -33,83 +33,42 @@ always seed t j =
     lt-ltb (generator_word ((seed + t) % 2 ^ 64) j % 256) 256 (mod_below (generator_word ((seed + t) % 2 ^ 64) j) 256
     (lit< tt))
 
-abbrev codes : List (List Instr) → List Code
-codes [] = []
-codes (actions ∷ rest) = record { actions = actions; registers = [] } ∷ codes rest
-
-abbrev test_of : List (List Instr) → LitmusTest
-test_of bodies = record { name = []; locations = []; bodies = codes bodies; quantifier = Exists; atoms = []; ends = [] }
-
 abbrev options : ℕ → ℕ → ℕ → Options
 options n rate buffer = record { iterations = n; seed = 0; rate = rate; buffer = buffer }
 
-abbrev at : ℕ → ℕ → ℕ → Kind → Event
-at t n p k = record { thread = t; iteration = n; place = p; kind = k }
-
--- store buffering
-abbrev sb : LitmusTest
-sb = test_of ((instr.Store 0 1 ∷ instr.Load Eax 1 ∷ []) ∷ (instr.Store 1 1 ∷ instr.Load Eax 0 ∷ []) ∷ [])
-
 -- One iteration at rate 0.
 
-abbrev relaxed : List Event
-relaxed = at 0 0 0 Push ∷ at 1 0 0 Push ∷ at 0 0 1 (Read 0) ∷ at 1 0 1 (Read 0) ∷ at 0 0 0 Drain ∷ at 1 0 0 Drain ∷ []
-
-relaxed_drained : (t : ℕ) → (after_all sb initial relaxed).buffer t ≡ []
-relaxed_drained zero = refl
-relaxed_drained (suc zero) = refl
-relaxed_drained (suc (suc t)) =
-    rw (ne_eqb 0 (suc (suc t)) (λ e. omega arith), ne_eqb 1 (suc (suc t)) (λ e. omega arith)) refl
+relaxed_run : IsRunOf sb 1 relaxed
+relaxed_run = run_by sb 1 relaxed assumption
 
 relaxed_lawful : (t : ℕ) → t < 2 → IsLawful sb (options 1 0 8) t (part_of t relaxed)
 relaxed_lawful zero l = record {
-  own = All-from_recursion (λ (e : Event). e.thread ≡ 0) (part_of 0 relaxed) (refl, (refl, (refl, tt)));
-  performs = (
-    (record { thread = refl; iteration = refl; place = refl; kind = tt }),
-    (record { thread = refl; iteration = refl; place = refl; kind = tt }, tt),
-  );
-  keeps = (tt, (tt, (refl, refl)));
+  own = All-from_recursion (λ (e : Event). e.thread ≡ 0) (part_of 0 relaxed) assumption;
+  performs = relaxed_run.performs 0 l;
+  keeps = assumption;
   drained = (rw (never 0 0 0) refl, (rw (never 0 0 1) refl, tt));
 }
 relaxed_lawful (suc zero) l = record {
-  own = All-from_recursion (λ (e : Event). e.thread ≡ 1) (part_of 1 relaxed) (refl, (refl, (refl, tt)));
-  performs = (
-    (record { thread = refl; iteration = refl; place = refl; kind = tt }),
-    (record { thread = refl; iteration = refl; place = refl; kind = tt }, tt),
-  );
-  keeps = (tt, (tt, (refl, refl)));
+  own = All-from_recursion (λ (e : Event). e.thread ≡ 1) (part_of 1 relaxed) assumption;
+  performs = relaxed_run.performs 1 l;
+  keeps = assumption;
   drained = (rw (never 0 1 0) refl, (rw (never 0 1 1) refl, tt));
 }
 relaxed_lawful (suc (suc t)) l = absurd (omega arith)
 
 relaxed_scheduled : IsScheduled sb (options 1 0 8) Turns relaxed
 relaxed_scheduled = record {
-  legal = record { steps = (tt, (tt, (refl, (refl, (refl, (refl, tt)))))); drained = relaxed_drained };
-  threads =
-      All-from_recursion (λ (e : Event). e.thread < 2) relaxed (
-        lit< tt,
-        (lit< tt, (lit< tt, (lit< tt, (lit< tt, (lit< tt, tt))))),
-      );
+  legal = relaxed_run.legal;
+  threads = relaxed_run.threads;
   lawful = relaxed_lawful;
   turns =
       (at 0 0 0 Push ∷ []) ∷ (at 1 0 0 Push ∷ []) ∷ (at 0 0 1 (Read 0) ∷ []) ∷ (at 1 0 1 (Read 0) ∷ [])
       ∷ (at 0 0 0 Drain ∷ []) ∷ (at 1 0 0 Drain ∷ []) ∷ [] ∷ [] ∷ [];
   whole = refl;
   follows = (
-    0,
-    refl,
-    refl,
-    (
-      1,
-      refl,
-      refl,
-      (
-        0,
-        refl,
-        refl,
-        (1, refl, refl, (0, refl, refl, (1, refl, refl, (0, refl, refl, (1, refl, refl, refl))))),
-      ),
-    ),
+    0, refl, refl, (
+      1, refl, refl, (
+        0, refl, refl, (1, refl, refl, (0, refl, refl, (1, refl, refl, (0, refl, refl, (1, refl, refl, refl)))))))
   );
 }
 
@@ -119,78 +78,28 @@ relaxed_logs = (refl, refl)
 
 -- Two iterations at rate 256: each buffer drains before the next action.
 
-abbrev drained_twice : List Event
-drained_twice =
-    at 0 0 0 Push ∷ at 1 0 0 Push ∷ at 0 0 0 Drain ∷ at 0 0 1 (Read 0) ∷ at 1 0 0 Drain ∷ at 1 0 1 (Read 1)
-    ∷ at 0 1 0 Push ∷ at 1 1 0 Push ∷ at 0 1 0 Drain ∷ at 0 1 1 (Read 1) ∷ at 1 1 0 Drain ∷ at 1 1 1 (Read 2) ∷ []
-
-twice_drained : (t : ℕ) → (after_all sb initial drained_twice).buffer t ≡ []
-twice_drained zero = refl
-twice_drained (suc zero) = refl
-twice_drained (suc (suc t)) =
-    rw (ne_eqb 0 (suc (suc t)) (λ e. omega arith), ne_eqb 1 (suc (suc t)) (λ e. omega arith)) refl
+twice_run : IsRunOf sb 2 drained_twice
+twice_run = run_by sb 2 drained_twice assumption
 
 twice_lawful : (t : ℕ) → t < 2 → IsLawful sb (options 2 256 8) t (part_of t drained_twice)
 twice_lawful zero l = record {
-  own =
-      All-from_recursion (λ (e : Event). e.thread ≡ 0) (part_of 0 drained_twice)
-      (refl, (refl, (refl, (refl, (refl, (refl, tt))))));
-  performs = (
-    record { thread = refl; iteration = refl; place = refl; kind = tt },
-    (
-      record { thread = refl; iteration = refl; place = refl; kind = tt },
-      (
-        record { thread = refl; iteration = refl; place = refl; kind = tt },
-        (record { thread = refl; iteration = refl; place = refl; kind = tt }, tt),
-      ),
-    ),
-  );
-  keeps = (tt, (refl, (tt, (tt, (refl, (tt, refl))))));
+  own = All-from_recursion (λ (e : Event). e.thread ≡ 0) (part_of 0 drained_twice) assumption;
+  performs = twice_run.performs 0 l;
+  keeps = assumption;
   drained = (rw (always 0 0 0) refl, (rw (always 0 0 1) refl, (rw (always 0 0 2) refl, (rw (always 0 0 3) refl, tt))));
 }
 twice_lawful (suc zero) l = record {
-  own =
-      All-from_recursion (λ (e : Event). e.thread ≡ 1) (part_of 1 drained_twice)
-      (refl, (refl, (refl, (refl, (refl, (refl, tt))))));
-  performs = (
-    record { thread = refl; iteration = refl; place = refl; kind = tt },
-    (
-      record { thread = refl; iteration = refl; place = refl; kind = tt },
-      (
-        record { thread = refl; iteration = refl; place = refl; kind = tt },
-        (record { thread = refl; iteration = refl; place = refl; kind = tt }, tt),
-      ),
-    ),
-  );
-  keeps = (tt, (refl, (tt, (tt, (refl, (tt, refl))))));
+  own = All-from_recursion (λ (e : Event). e.thread ≡ 1) (part_of 1 drained_twice) assumption;
+  performs = twice_run.performs 1 l;
+  keeps = assumption;
   drained = (rw (always 0 1 0) refl, (rw (always 0 1 1) refl, (rw (always 0 1 2) refl, (rw (always 0 1 3) refl, tt))));
 }
 twice_lawful (suc (suc t)) l = absurd (omega arith)
 
 twice_scheduled : IsScheduled sb (options 2 256 8) Turns drained_twice
 twice_scheduled = record {
-  legal =
-      record {
-        steps = (tt, (tt, (refl, (refl, (refl, (refl, (tt, (tt, (refl, (refl, (refl, (refl, tt))))))))))));
-        drained = twice_drained;
-      };
-  threads =
-      All-from_recursion (λ (e : Event). e.thread < 2) drained_twice (
-        lit< tt,
-        (
-          lit< tt,
-          (
-            lit< tt,
-            (
-              lit< tt,
-              (
-                lit< tt,
-                (lit< tt, (lit< tt, (lit< tt, (lit< tt, (lit< tt, (lit< tt, (lit< tt, tt))))))),
-              ),
-            ),
-          ),
-        ),
-      );
+  legal = twice_run.legal;
+  threads = twice_run.threads;
   lawful = twice_lawful;
   turns =
       (at 0 0 0 Push ∷ []) ∷ (at 1 0 0 Push ∷ []) ∷ (at 0 0 0 Drain ∷ at 0 0 1 (Read 0) ∷ [])
@@ -199,35 +108,12 @@ twice_scheduled = record {
       ∷ (at 1 1 0 Drain ∷ at 1 1 1 (Read 2) ∷ []) ∷ [] ∷ [] ∷ [];
   whole = refl;
   follows = (
-    0,
-    refl,
-    refl,
-    (
-      1,
-      refl,
-      refl,
-      (
-        0,
-        refl,
-        refl,
-        (
-          1,
-          refl,
-          refl,
-          (
-            0,
-            refl,
-            refl,
-            (
-              1,
-              refl,
-              refl,
-              (0, refl, refl, (1, refl, refl, (0, refl, refl, (1, refl, refl, refl)))),
-            ),
-          ),
-        ),
-      ),
-    ),
+    0, refl, refl, (
+      1, refl, refl, (
+        0, refl, refl, (
+          1, refl, refl, (
+            0, refl, refl, (
+              1, refl, refl, (0, refl, refl, (1, refl, refl, (0, refl, refl, (1, refl, refl, refl)))))))))
   );
 }
 
@@ -252,15 +138,9 @@ short_part = at 0 0 0 Push ∷ at 0 0 0 Drain ∷ at 0 0 1 Push ∷ at 0 0 2 (Re
 
 short_lawful : IsLawful buf (options 1 0 1) 0 short_part
 short_lawful = record {
-  own = All-from_recursion (λ (e : Event). e.thread ≡ 0) short_part (refl, (refl, (refl, (refl, (refl, tt)))));
-  performs = (
-    record { thread = refl; iteration = refl; place = refl; kind = tt },
-    (
-      record { thread = refl; iteration = refl; place = refl; kind = tt },
-      (record { thread = refl; iteration = refl; place = refl; kind = tt }, tt),
-    ),
-  );
-  keeps = (tt, (refl, (tt, (tt, (refl, refl)))));
+  own = All-from_recursion (λ (e : Event). e.thread ≡ 0) short_part assumption;
+  performs = assumption;
+  keeps = assumption;
   drained = (rw (never 0 0 0) refl, (rw (never 0 0 1) refl, (rw (never 0 0 2) refl, tt)));
 }
 
@@ -272,15 +152,9 @@ long_part = at 0 0 0 Push ∷ at 0 0 1 Push ∷ at 0 0 2 (Read 1) ∷ at 0 0 0 D
 
 long_lawful : IsLawful buf (options 1 0 8) 0 long_part
 long_lawful = record {
-  own = All-from_recursion (λ (e : Event). e.thread ≡ 0) long_part (refl, (refl, (refl, (refl, (refl, tt)))));
-  performs = (
-    record { thread = refl; iteration = refl; place = refl; kind = tt },
-    (
-      record { thread = refl; iteration = refl; place = refl; kind = tt },
-      (record { thread = refl; iteration = refl; place = refl; kind = tt }, tt),
-    ),
-  );
-  keeps = (tt, (tt, (refl, (refl, (refl, refl)))));
+  own = All-from_recursion (λ (e : Event). e.thread ≡ 0) long_part assumption;
+  performs = assumption;
+  keeps = assumption;
   drained = (rw (never 0 0 0) refl, (rw (never 0 0 1) refl, (rw (never 0 0 2) refl, tt)));
 }
 
