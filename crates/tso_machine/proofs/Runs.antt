@@ -22,14 +22,14 @@ steps_right test s (e ∷ es) fs h = steps_right test (after test s e) es fs h.1
 
 -- Memory.
 
-memory_step : (test : LitmusTest) (s : State) (e : Event) (x : ℕ) (k : Kind)
+pub memory_after_event : (test : LitmusTest) (s : State) (e : Event) (x : ℕ) (k : Kind)
     → (after_as k test s e).memory x ≡ cond (is_memory_kind k && (event_location test e == x)) (written_value test e)
     (s.memory x)
-memory_step test s e x Push = refl
-memory_step test s e x Drain = refl
-memory_step test s e x (Read v) = refl
-memory_step test s e x Fenced = refl
-memory_step test s e x (Exchanged v) = refl
+memory_after_event test s e x Push = refl
+memory_after_event test s e x Drain = refl
+memory_after_event test s e x (Read v) = refl
+memory_after_event test s e x Fenced = refl
+memory_after_event test s e x (Exchanged v) = refl
 
 memory_join : (f : Event → ℕ) (e : Event) (d : ℕ) (o : Option Event) (b : Bool)
     → option_map_or f o (cond b (f e) d) ≡ option_map_or f (option_or o (cond b (Some e) None)) d
@@ -44,7 +44,7 @@ pub memory_after : (test : LitmusTest) (s : State) (x : ℕ) (es : List Event)
 memory_after test s x [] = refl
 memory_after test s x (e ∷ es) =
     memory_after test (after test s e) x es
-    ∙ ap (option_map_or (written_value test) (last_that (is_memory_write test x) es)) (memory_step test s e x e.kind)
+    ∙ ap (option_map_or (written_value test) (last_that (is_memory_write test x) es)) (memory_after_event test s e x e.kind)
     ∙ memory_join (written_value test) e (s.memory x) (last_that (is_memory_write test x) es) (is_memory_write test x e)
 
 -- Buffers. What goes into a queue and what comes out of it; with `true` an exchange is both.
@@ -95,13 +95,11 @@ own_step test s e true (Exchanged v) us vs rest n h =
     rw (n.0) (ap (λ l. write_of test e ∷ l) k)
 own_step test s e false (Exchanged v) us vs rest n h = h
 
-other_step : (test : LitmusTest) (s : State) (e : Event) (t : ℕ) (k : Kind) → (e.thread == t) ≡ false
+pub other_buffer : (test : LitmusTest) (s : State) (e : Event) (t : ℕ) (k : Kind) → (e.thread == t) ≡ false
     → (after_as k test s e).buffer t ≡ s.buffer t
-other_step test s e t Push h = rw h refl
-other_step test s e t Drain h = rw h refl
-other_step test s e t (Read v) h = refl
-other_step test s e t Fenced h = refl
-other_step test s e t (Exchanged v) h = refl
+other_buffer test s e t Push h = rw h refl
+other_buffer test s e t Drain h = rw h refl
+other_buffer test s e t _ h = refl
 
 map_kept : {A B : Type 0} (f : A → B) (b : Bool) (x : A) (xs : List A)
     → map f (cond b (x ∷ xs) xs) ≡ cond b (f x ∷ map f xs) (map f xs)
@@ -127,7 +125,7 @@ queue_step test b t s e es true h n k =
     let q : Q t = subst Q same (own_step test s e b e.kind (map (write_of test) fed) (map (write_of test) left) rest n
     (subst P (sym same) k)) in
     rw (map_kept (write_of test) (goes_in b e) e fed, map_kept (write_of test) (comes_out b e) e left) q
-queue_step test b t s e es false h n k = rw (← other_step test s e t e.kind h) k
+queue_step test b t s e es false h n k = rw (← other_buffer test s e t e.kind h) k
 
 -- what stands in a thread's buffer and what goes in later is, in this order, what comes out and what is left
 pub queue_after : (test : LitmusTest) (b : Bool) (t : ℕ) (s : State) (es : List Event) → Steps test s es
