@@ -77,6 +77,3 @@ job_alone (first ∷ second ∷ rest) =
 pub iterations_some : (words : List Text) (job : Asked) → job_in [] words ≡ Some job
     → iterations_in words ≡ Some job.options.iterations
 iterations_some words job is = sym (job_alone words) ∙ ap its_iterations is
-
-pub iterations_none : (words : List Text) → job_in [] words ≡ None → iterations_in words ≡ None
-iterations_none words is = sym (job_alone words) ∙ ap its_iterations is

@@ -27,9 +27,6 @@ each_push P members new each here i d lt =
     (sym (get_or-append_seam members new [] d)) here))
     (cases_lt i (length members))
 
-pub each_none : (P : ℕ → Enrolled → Type 0) → Each P []
-each_none P i d lt = absurd (omega (arith, lt))
-
 pub nothing_left : {X : Type 0} (l : List X) → length l ≡ 0 → l ≡ []
 nothing_left [] h = refl
 nothing_left (x ∷ xs) h = absurd (omega arith)

@@ -7,11 +7,9 @@ use Rattle.tso_words.specs.Seats.{Ended as Closed}
 use Rattle.command_words.specs.Words.{command_of}
 use Rattle.perp_base.specs.View.{View}
 use Rattle.program_edge.specs.Field.{IsStill}
-use Rattle.program_edge.specs.Form.{IsUnread, due_for_atoms, due_for_form}
+use Rattle.program_edge.specs.Form.{due_for_form}
 use Rattle.litmus_reader.specs.Answer.{Answer, Accepted, Refused as Unread, Over as TooLarge}
-use Rattle.litmus_reader.specs.Reading.{Reads}
-use Rattle.profile_check.specs.Profile.{Profile, inside, outside, profile_of}
-use Rattle.perple_core.specs.Due.{Took, Refused, IsInputRefusal, IsDue, due_for_profile, due_for_reading}
+use Rattle.perple_core.specs.Due.{Took, Refused, IsInputRefusal, IsDue, due_for_reading}
 use Rattle.perple_core.specs.Due.IsInputRefusal.{no_memory as input_memory, no_reading as input_reading, too_long as input_long}
 use Rattle.program_edge.specs.Ending.Refused.{no_memory, no_reading, too_long, no_input}
 use Rattle.perple_core.specs.Top.{RanFor, Accepts, IsStillOrRan}
@@ -50,27 +48,3 @@ due_of_form : (command : Command) (answer : Answer) (status : Status) → due_fo
 due_of_form command (Unread refusal) status e = e
 due_of_form command (TooLarge limit) status e = e
 due_of_form command (Accepted test) status e = absurd (cc)
-
-pub due_from_form : (command : Command) (bytes : List ℕ) (status : Status) → (status ≡ Memory) ⊎ IsUnread bytes status
-    → (status ≡ Memory) ⊎ IsDue command bytes (Some status)
-due_from_form command bytes status (inl memory) = inl memory
-due_from_form command bytes status (inr unread) =
-    inr (record {
-      answer = unread.answer;
-      reads = unread.reads;
-      is = due_of_form command unread.answer status unread.is;
-    })
-
--- and so is the one that is due for its atoms
-due_of_atoms : (command : Command) (test : LitmusTest) (profile : Profile) (status : Status)
-    → due_for_atoms profile ≡ Some status → due_for_profile command test profile ≡ Some status
-due_of_atoms command test inside status e = absurd (cc)
-due_of_atoms command test (outside atom kind) status e = e
-
-pub due_from_atoms : (command : Command) (bytes : List ℕ) (test : LitmusTest) (status : Status)
-    → Reads bytes (Accepted test)
-    → (status ≡ Memory) ⊎ (due_for_atoms (profile_of test) ≡ Some status)
-    → (status ≡ Memory) ⊎ IsDue command bytes (Some status)
-due_from_atoms command bytes test status reads (inl memory) = inl memory
-due_from_atoms command bytes test status reads (inr due) =
-    inr (record { answer = Accepted test; reads = reads; is = due_of_atoms command test (profile_of test) status due })

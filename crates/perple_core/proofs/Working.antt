@@ -1,5 +1,5 @@
 -- How the contract of a run, or of a replay, becomes the right text.
-use Rattle.std.proofs.Common.{◌≡◌, ◌⊎◌, ℕ, ◌≤◌, ◌&&◌, Bool, true, false, List, ◌++◌, None, Result, Ok, Err, String, string_bytes, Global, IfOk, OnErr, nat_lt, inr, refl, sym, ap, ◌∙◌, arith}
+use Rattle.std.proofs.Common.{◌≡◌, ◌⊎◌, ℕ, ◌≤◌, ◌&&◌, Bool, true, false, List, None, Result, Ok, Err, String, string_bytes, Global, IfOk, OnErr, nat_lt, inr, refl, sym, ap, ◌∙◌, arith}
 use Rattle.x86_subset.specs.Test.{LitmusTest}
 use Rattle.tso_machine.specs.Event.{Event}
 use Rattle.tso_words.specs.Seats.{Ended as Closed}
@@ -88,18 +88,6 @@ schedule_text test options schedule logs gives (Ok text) replayed h = record {
       (replayed.every run is) replayed.whole);
 }
 schedule_text test options schedule logs gives (Err e) replayed h = tt
-
--- a text in front of that of the run of a schedule
-pub text_after : (test : LitmusTest) (options : Options) (schedule : Schedule) (front : List ℕ)
-    (gives : List Event → List ℕ) (r : Result (String Global) NoMemory) (text : List ℕ)
-    → IsTextOfSchedule test options schedule gives text
-    → IfOk r (λ whole. string_bytes whole ≡ front ++ text)
-    → IfOk r (λ whole. IsTextOfSchedule test options schedule (λ run. front ++ gives run) (string_bytes whole))
-text_after test options schedule front gives (Ok whole) text is e = record {
-  some_run = is.some_run;
-  each = λ run scheduled. e ∙ ap (λ t. front ++ t) (is.each run scheduled);
-}
-text_after test options schedule front gives (Err e) text is h = tt
 
 -- the report of a run that threads made
 pub run_text : (test : LitmusTest) (job : Job) (done : Closed) (logs : List Values)

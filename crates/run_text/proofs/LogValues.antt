@@ -1,5 +1,5 @@
 -- The numbers of a line, one by one.
-use Rattle.std.proofs.Common.{◌≡◌, ◌≢◌, ℕ, ◌*◌, ◌<◌, Option, None, Some, List, [], ◌∷◌, ◌++◌, cond, length, refl, ap, append-nil, append_assoc, arith, eq-eqb, length-append, sym, ◌∙◌}
+use Rattle.std.proofs.Common.{◌≡◌, ◌≢◌, ℕ, ◌*◌, Option, None, Some, List, [], ◌∷◌, ◌++◌, cond, length, refl, ap, append-nil, append_assoc, eq-eqb, sym, ◌∙◌}
 use Rattle.std.proofs.lemmas.Bool.{ne_eqb}
 use Rattle.std.specs.Option.{option_and_then}
 use Rattle.load_log.specs.Values.{Values}
@@ -10,10 +10,6 @@ use Rattle.run_text.specs.Numbers.{large_number}
 abbrev pub after : List ℕ → Option (List ℕ) → Option (List ℕ)
 after done None = None
 after done (Some vs) = Some (done ++ vs)
-
-pub after_none : (o : Option (List ℕ)) → after [] o ≡ o
-after_none None = refl
-after_none (Some vs) = refl
 
 after_one : (done : List ℕ) (v : ℕ) (o : Option (List ℕ))
     → after done (in_front (Some v) o) ≡ after (done ++ v ∷ []) o
@@ -44,30 +40,9 @@ no_number columns n done w ws words all h e left =
     ∙ ap (λ o. after done (in_front o (numbers_of ws))) (sym h) in
     sym (ap (LogOf columns n) none)
 
--- more numbers than the log has
-too_many_by : (columns n v : ℕ) (done : List ℕ) (o : Option (List ℕ)) → length done ≡ columns * n
-    → None ≡ LogOf columns n (after done (in_front (Some v) o))
-too_many_by columns n v done None e = refl
-too_many_by columns n v done (Some vs) e =
-    sym (no_log columns n (done ++ v ∷ vs) (λ same. let l = length-append done (v ∷ vs) in absurd (omega arith)))
-
-pub too_many : (columns n v : ℕ) (done : List ℕ) (w : List ℕ) (ws words : List (List ℕ)) (all : Option (List ℕ))
-    → length done ≡ columns * n → Some v ≡ large_number w → words ≡ w ∷ ws → after done (numbers_of words) ≡ all
-    → None ≡ LogOf columns n all
-too_many columns n v done w ws words all long h e left =
-    too_many_by columns n v done (numbers_of ws) long
-    ∙ ap (λ o. LogOf columns n (after done (in_front o (numbers_of ws)))) h
-    ∙ ap (λ ws. LogOf columns n (after done (numbers_of ws))) (sym e) ∙ ap (LogOf columns n) left
-
 ended : (done : List ℕ) (words : List (List ℕ)) (all : Option (List ℕ)) → words ≡ []
     → after done (numbers_of words) ≡ all → all ≡ Some done
 ended done words all e left = sym left ∙ ap (λ ws. after done (numbers_of ws)) e ∙ ap Some (append-nil done)
-
--- fewer
-pub too_few : (columns n : ℕ) (done : List ℕ) (words : List (List ℕ)) (all : Option (List ℕ))
-    → length done < columns * n → words ≡ [] → after done (numbers_of words) ≡ all → None ≡ LogOf columns n all
-too_few columns n done words all short e left =
-    sym (ap (LogOf columns n) (ended done words all e left) ∙ no_log columns n done (λ same. omega arith))
 
 -- exactly as many
 pub exactly : (columns n : ℕ) (log : Values) (words : List (List ℕ)) (all : Option (List ℕ)) → log.columns ≡ columns

@@ -1,6 +1,6 @@
 -- One line of a section of logs.
-use Rattle.std.proofs.Common.{◌≡◌, ℕ, suc, ◌+◌, ◌-◌, ◌<◌, ◌≤◌, Bool, true, false, cond, Option, None, Some, List, [], ◌∷◌, ◌++◌, Result, Ok, Err, drop, length, nat_lt, slice_get, refl, sym, ap, ◌∙◌, arith, append-nil, codes, decimal, le-ltb, lt-ltb}
-use Rattle.std.proofs.lemmas.List.{drop_all, length_push}
+use Rattle.std.proofs.Common.{◌≡◌, ℕ, suc, ◌+◌, ◌-◌, ◌<◌, ◌≤◌, Bool, true, false, cond, Option, None, Some, List, [], ◌∷◌, ◌++◌, Result, Ok, Err, drop, length, nat_lt, slice_get, refl, sym, ap, ◌∙◌, arith, codes, decimal, le-ltb, lt-ltb}
+use Rattle.std.proofs.lemmas.List.{length_push}
 use Rattle.std.proofs.lemmas.Option.{slice_get_within}
 use Rattle.std.specs.List.{cons_option, enumerate_from, filter, filter_map, find}
 use Rattle.std.specs.Option.{is_none, option_and_then, option_map, option_or}
@@ -150,19 +150,6 @@ no_form columns k text this at n line done all is w h left =
     let t = length done in
     let fault = fault_first columns k line t this (lines_of (drop (at + n) text)) (sym w) (sym h) in
     sym left ∙ ap (onto_all done) (step columns k text this at n line t is ∙ fault)
-
-pub all_said : (columns : List ℕ) (k : ℕ) (text : List ℕ) (at line : ℕ) (done : List Values) (all : Said)
-    → length text ≤ at → length columns ≤ length done → from_place columns k text line done at ≡ all → all ≡ Ok done
-all_said columns k text at line done all le full left =
-    sym left ∙ ap (λ t. onto_all done (logs_from columns k line (length done) (lines_of t))) (drop_all at text le)
-    ∙ ap (onto_all done) (none_left columns k line (length done) full) ∙ ap Ok (append-nil done)
-
-pub one_missing : (columns : List ℕ) (k : ℕ) (text : List ℕ) (at line : ℕ) (done : List Values) (all : Said)
-    → length text ≤ at → length done < length columns → from_place columns k text line done at ≡ all
-    → all ≡ Err (line - 1)
-one_missing columns k text at line done all le short left =
-    sym left ∙ ap (λ t. onto_all done (logs_from columns k line (length done) (lines_of t))) (drop_all at text le)
-    ∙ ap (onto_all done) (some_left columns k line (length done) short)
 
 -- ---- a log is that of a thread that there is
 

@@ -1,6 +1,6 @@
 -- One line of the search for a section line.
 use Rattle.std.proofs.Common.{◌≡◌, ℕ, suc, ◌+◌, ◌-◌, ◌<◌, ◌≤◌, Option, None, Some, List, [], ◌∷◌, ◌++◌, drop, get_or, length, take, refl, sym, ap, ◌∙◌, arith, append-nil, append_assoc, drop-drop, length-drop, take-add}
-use Rattle.std.proofs.lemmas.List.{drop_all, take_all}
+use Rattle.std.proofs.lemmas.List.{take_all}
 use Rattle.std.specs.List.{concat, position}
 use Rattle.std.specs.Option.{is_some, option_and_then, option_map}
 use Rattle.litmus_reader.specs.Front.{words}
@@ -96,12 +96,6 @@ abbrev pub after : ℕ → List ℕ → Split → Split
 after line front s =
     record { litmus = front ++ s.litmus; iterations = s.iterations; line = line + s.line - 1; lines = s.lines }
 
-pub all_before : (o : Option Split) → option_map (after 1 []) o ≡ o
-all_before None = refl
-all_before (Some s) =
-    let line : 1 + s.line - 1 ≡ s.line = omega arith in
-    λ i. Some (record { litmus = s.litmus; iterations = s.iterations; line = line i; lines = s.lines })
-
 one_more_after : (line : ℕ) (front l : List ℕ) (o : Option Split)
     → option_map (after line front) (option_map (one_after l) o) ≡ option_map (after (line + 1) (front ++ l)) o
 one_more_after line front l None = refl
@@ -147,8 +141,3 @@ section_later heading text this at n line all is e left =
     ∙ sym (ap (option_map (after line (take at text))) (parted_later heading this ls (sym e)))
     ∙ sym (ap (λ ls. option_map (after line (take at text)) (parted heading ls)) (lines_at text this at n is))
     ∙ left
-
-pub no_section : (heading text : List ℕ) (line at : ℕ) (all : Option Split) → length text ≤ at
-    → from_place heading text line at ≡ all → None ≡ all
-no_section heading text line at all le left =
-    sym (ap (λ t. option_map (after line (take at text)) (parted heading (lines_of t))) (drop_all at text le)) ∙ left

@@ -148,21 +148,6 @@ stores_goes test x t old new whole body lt e n w =
     ∙ append_assoc old (stores_in_body x t 0 s.here.actions) left
     ∙ ap (λ l. old ++ stores_in_bodies x t l) (sym s.cut) ∙ w
 
--- the numbers of one action more
-pub numbers_goes : (test : LitmusTest) (t p : ℕ) (old new whole : List Number) (body : List Instr) (action d : Instr)
-    → p < length body →
-    action ≡ get_or body p d →
-    new ≡ old ++ action_number test (record { thread = t; place = p }) action ∷ []
-    → old ++ numbers_in_body test t p (drop p body) ≡ whole →
-    new ++ numbers_in_body test t (p + 1) (drop (p + 1) body) ≡ whole
-numbers_goes test t p old new whole body action d lt e n w =
-    let s = next_item body p lt in
-    let b : action ≡ s.here = e ∙ get_or_from_slice_get body p s.here d s.at in
-    let left = numbers_in_body test t (p + 1) (drop (p + 1) body) in
-    ap (λ l. l ++ left) n ∙ ap (λ a. (old ++ action_number test (record { thread = t; place = p }) a ∷ []) ++ left) b
-    ∙ append_assoc old (action_number test (record { thread = t; place = p }) s.here ∷ []) left
-    ∙ ap (λ l. old ++ numbers_in_body test t p l) (sym s.cut) ∙ w
-
 -- the numbers of one thread more
 pub rows_goes : {X : Type 0} (f : X → List Number) (test : LitmusTest) (t : ℕ) (old new : List X) (row : X)
     (whole : List (List Number)) → t < length test.bodies →

@@ -1,35 +1,24 @@
 -- From the answer of one layer to that of the next.
-use Rattle.std.proofs.Common.{◌≡◌, ◌⊎◌, ℕ, ◌≤◌, List, length, Some, None, Result, Ok, Err, String, string_bytes, Global, IfOk, IfErr, inl, inr, refl, sym, subst}
+use Rattle.std.proofs.Common.{◌≡◌, ◌⊎◌, ℕ, ◌≤◌, List, length, Some, None, Result, Ok, Err, String, string_bytes, Global, IfOk, IfErr, inl, inr, sym, subst}
 use Rattle.x86_subset.specs.Test.{LitmusTest}
 use Rattle.tso_words.specs.Seats.{Ended as Closed}
 use Rattle.litmus_reader.specs.Answer.{Accepted}
 use Rattle.litmus_reader.specs.Reading.{Reads}
-use Rattle.report_text.specs.declared.status.Status.{Status}
 use Rattle.report_text.specs.declared.status.Status.TheVariants.{Memory}
 use Rattle.run_text.specs.Sections.{Split}
 use Rattle.program_edge.specs.Field.{IsStill}
-use Rattle.program_edge.specs.Form.{IsUnread}
 use Rattle.perp_base.specs.View.{View}
 use Rattle.tool_core.specs.Words.{command_of}
 use Rattle.tool_core.specs.Due.{IsDue, IsInputRefusal, Refused, Took, due_for_test, parts_of}
 use Rattle.tool_core.specs.Due.IsInputRefusal.{no_memory as input_memory, no_reading as input_reading, too_long as input_long}
 use Rattle.program_edge.specs.Ending.Refused.{no_memory, no_reading, too_long, no_input}
-use Rattle.tool_core.specs.Top.{Accepts, Answers, IsAnswer, IsStillOrRan, IsText, Leaves, RanFor}
+use Rattle.tool_core.specs.Top.{Accepts, IsAnswer, IsStillOrRan, IsText, RanFor}
 use Rattle.tool_core.specs.declared.words.Command.{Command}
 use Rattle.tool_core.specs.declared.status.ToolStatus.{ToolStatus}
 use Rattle.tool_core.specs.declared.status.ToolStatus.TheVariants.{Core}
-use Rattle.tool_core.proofs.Dues.{due_for_text, test_is_due, unread_is_due}
+use Rattle.tool_core.proofs.Dues.{due_for_text, test_is_due}
 
 -- ---- a litmus part and its test
-
-pub unread_due : (command : Command) (input : List ℕ) (parts : Split) (status : Status)
-    → parts_of command input ≡ Some parts → length parts.litmus ≤ 65536
-    → (status ≡ Memory) ⊎ IsUnread parts.litmus status
-    → (Core status ≡ Core Memory) ⊎ IsDue command input (Some (Core status))
-unread_due command input parts status e short (inl memory) =
-    inl (subst (λ (s : Status). Core s ≡ Core Memory) (sym memory) refl)
-unread_due command input parts status e short (inr unread) =
-    inr (due_for_text command input parts (Some (Core status)) e short (unread_is_due command parts status unread))
 
 -- what the work on a test and a section promises
 pub record Works (command : Command) (test : LitmusTest) (parts : Split) (done : Closed)
@@ -121,18 +110,6 @@ pub record AnswersInput (command : Command) (input : List ℕ) (done : Closed)
   pub err : IfErr text (λ s. (s ≡ Core Memory) ⊎ IsDue command input (Some s))
   pub still : IfErr text (IsStillOrRan command input done)
 
-pub answers_of : (words : List (List ℕ)) (old new : View) (command : Command) (input : List ℕ) (done : Closed)
-    (text : Result (String Global) ToolStatus)
-    → Took words old new command input → AnswersInput command input done text
-    → IfOk text (λ t. Answers words old new done (string_bytes t))
-answers_of words old new command input done (Ok t) took a = record {
-  command = command;
-  input = input;
-  took = took;
-  answer = a.ok;
-}
-answers_of words old new command input done (Err s) took a = tt
-
 refused_by : (words : List (List ℕ)) (old new : View) (command : Command) (input : List ℕ) (s : ToolStatus)
     → Took words old new command input
     → (s ≡ Core Memory) ⊎ IsDue command input (Some s) → Refused words old new s
@@ -144,16 +121,3 @@ pub refused_of : (words : List (List ℕ)) (old new : View) (command : Command) 
     → Took words old new command input → AnswersInput command input done text → IfErr text (Refused words old new)
 refused_of words old new command input done (Ok t) took a = tt
 refused_of words old new command input done (Err s) took a = refused_by words old new command input s took a.err
-
-leaves_by : (words : List (List ℕ)) (old new : View) (command : Command) (input : List ℕ) (done : Closed)
-    (s : ToolStatus) → Took words old new command input
-    → IsStillOrRan command input done s → Leaves words old new done s
-leaves_by words old new command input done s took (inl still) = inl still
-leaves_by words old new command input done s took (inr ran) =
-    inr (ran.0, record { command = command; input = input; took = took; ran = ran.1 })
-
-pub leaves_of : (words : List (List ℕ)) (old new : View) (command : Command) (input : List ℕ) (done : Closed)
-    (text : Result (String Global) ToolStatus)
-    → Took words old new command input → AnswersInput command input done text → IfErr text (Leaves words old new done)
-leaves_of words old new command input done (Ok t) took a = tt
-leaves_of words old new command input done (Err s) took a = leaves_by words old new command input done s took a.still

@@ -1,5 +1,5 @@
 -- Each input has one refusal that is due, or none; and which statuses are refusals of an input.
-use Rattle.std.proofs.Common.{◌≡◌, ◌⊎◌, inl, inr, ℕ, ◌<◌, ◌≤◌, Bool, true, false, List, length, Some, None, Result, Ok, Err, nat_lt, if◌then◌else◌, MatchBool, option_map, refl, sym, ap, subst, ◌∙◌, arith}
+use Rattle.std.proofs.Common.{◌≡◌, ◌⊎◌, inl, inr, ℕ, ◌≤◌, Bool, true, false, List, length, Some, None, Result, Ok, Err, nat_lt, if◌then◌else◌, MatchBool, option_map, refl, sym, ap, subst, ◌∙◌, arith}
 use Rattle.std.specs.declared.option.Option.{Option}
 use Rattle.x86_subset.specs.Test.{LitmusTest}
 use Rattle.x86_subset.specs.declared.test.Shape.{Shape}
@@ -14,7 +14,7 @@ use Rattle.report_text.specs.declared.status.Status.{Status}
 use Rattle.report_text.specs.declared.status.Status.TheVariants.{Whole, Memory, Usage, ReadFault, WriteFault, NotLitmus, OutsideProfile, Limit}
 use Rattle.run_text.specs.Events.{events_of}
 use Rattle.run_text.specs.Sections.{Split}
-use Rattle.program_edge.specs.Form.{IsUnread, due_for_atoms, due_for_form, over_of}
+use Rattle.program_edge.specs.Form.{due_for_atoms, due_for_form, over_of}
 use Rattle.tool_core.specs.Due.{IsDue, IsDueForParts, IsDueForText, due_for_events, due_for_lines, due_for_reading, due_for_test, due_for_witness, due_for_writers, first_due, most_events_of, parts_of, section_logs}
 use Rattle.tool_core.specs.declared.words.Command.{Command}
 use Rattle.tool_core.specs.declared.words.Command.TheVariants.{Judge, Order, Witness, Verdict, Show, Skew}
@@ -143,23 +143,8 @@ of_input command input s due = of_parts command (parts_of command input) s due
 
 -- ---- what is due for the parts of an input is due for the input
 
-pub due_without_section : (command : Command) (input : List ℕ) → parts_of command input ≡ None
-    → IsDue command input (Some NoSection)
-due_without_section command input e =
-    subst (λ (p : Option Split). IsDueForParts command p (Some NoSection)) (sym e) refl
-
-long_is : (n : ℕ) → 65536 < n → nat_lt 65536 n ≡ true
-long_is n h = grind (arith)
-
 short_is : (n : ℕ) → n ≤ 65536 → nat_lt 65536 n ≡ false
 short_is n h = grind (arith)
-
-pub due_for_long : (command : Command) (input : List ℕ) (parts : Split) → parts_of command input ≡ Some parts
-    → 65536 < length parts.litmus
-    → IsDue command input (Some (Core (Limit Input)))
-due_for_long command input parts e long =
-    subst (λ (p : Option Split). IsDueForParts command p (Some (Core (Limit Input)))) (sym e)
-    (rw (long_is (length parts.litmus) long) refl)
 
 pub due_for_text : (command : Command) (input : List ℕ) (parts : Split) (due : Option ToolStatus)
     → parts_of command input ≡ Some parts → length parts.litmus ≤ 65536
@@ -174,15 +159,6 @@ due_of_form : (command : Command) (parts : Split) (answer : Answer) (status : St
 due_of_form command parts (Unread refusal) status e = ap (option_map Core) e
 due_of_form command parts (TooLarge limit) status e = ap (option_map Core) e
 due_of_form command parts (Accepted test) status e = absurd (cc)
-
-pub unread_is_due : (command : Command) (parts : Split) (status : Status) → IsUnread parts.litmus status
-    → IsDueForText command parts (Some (Core status))
-unread_is_due command parts status unread =
-    record {
-      answer = unread.answer;
-      reads = unread.reads;
-      is = due_of_form command parts unread.answer status unread.is;
-    }
 
 pub test_is_due : (command : Command) (parts : Split) (test : LitmusTest) (due : Option ToolStatus)
     → Reads parts.litmus (Accepted test)

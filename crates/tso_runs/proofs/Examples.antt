@@ -66,9 +66,20 @@ relaxed_scheduled = record {
       ∷ (at 0 0 0 Drain ∷ []) ∷ (at 1 0 0 Drain ∷ []) ∷ [] ∷ [] ∷ [];
   whole = refl;
   follows = (
-    0, refl, refl, (
-      1, refl, refl, (
-        0, refl, refl, (1, refl, refl, (0, refl, refl, (1, refl, refl, (0, refl, refl, (1, refl, refl, refl)))))))
+    0,
+    refl,
+    refl,
+    (
+      1,
+      refl,
+      refl,
+      (
+        0,
+        refl,
+        refl,
+        (1, refl, refl, (0, refl, refl, (1, refl, refl, (0, refl, refl, (1, refl, refl, refl))))),
+      ),
+    ),
   );
 }
 
@@ -108,12 +119,35 @@ twice_scheduled = record {
       ∷ (at 1 1 0 Drain ∷ at 1 1 1 (Read 2) ∷ []) ∷ [] ∷ [] ∷ [];
   whole = refl;
   follows = (
-    0, refl, refl, (
-      1, refl, refl, (
-        0, refl, refl, (
-          1, refl, refl, (
-            0, refl, refl, (
-              1, refl, refl, (0, refl, refl, (1, refl, refl, (0, refl, refl, (1, refl, refl, refl)))))))))
+    0,
+    refl,
+    refl,
+    (
+      1,
+      refl,
+      refl,
+      (
+        0,
+        refl,
+        refl,
+        (
+          1,
+          refl,
+          refl,
+          (
+            0,
+            refl,
+            refl,
+            (
+              1,
+              refl,
+              refl,
+              (0, refl, refl, (1, refl, refl, (0, refl, refl, (1, refl, refl, refl)))),
+            ),
+          ),
+        ),
+      ),
+    ),
   );
 }
 

@@ -1,7 +1,7 @@
 -- What a run makes: the buffers of its parts, and its shared history with the memory that it finds and leaves.
-use Rattle.std.proofs.Common.{◌==◌, true, eqb-true, ◌≡◌, ⊎_elim, ℕ, ◌<◌, All, List, [], ◌∷◌, ◌++◌, map, length, refl, sym, ◌∙◌, ap, subst, arith}
+use Rattle.std.proofs.Common.{◌≡◌, ⊎_elim, ℕ, ◌<◌, All, List, [], ◌∷◌, ◌++◌, map, length, refl, sym, ◌∙◌, ap, subst, arith}
 use Rattle.std.proofs.lemmas.Bool.{cases_eq}
-use Rattle.std.proofs.lemmas.List.Elements.{All-nil, All-cons, All-head, All-tail, All-append, All-weaker, filter_passes}
+use Rattle.std.proofs.lemmas.List.Elements.{All-nil, All-cons, All-head, All-tail, All-append, All-weaker}
 use Rattle.x86_subset.specs.Test.{LitmusTest}
 use Rattle.tso_machine.specs.Event.{Event}
 use Rattle.tso_machine.specs.Machine.{Write, State, Steps, initial, after, after_all}
@@ -14,11 +14,6 @@ use Rattle.tso_runs.proofs.Memories.{memory_after, memory_after_step, FindsAll, 
 use Rattle.tso_runs.specs.SharedSteps.{steps_of, shared_steps, shared_history}
 use Rattle.tso_runs.specs.Merging.{LegalRunsMakeTheirHistories, history_of}
 use Rattle.tso_runs.proofs.Events.{tagged, traced, part_of-own, part_of-other, history_part-tagged_own, history_part-tagged_other, buffer_own, buffer_other, memory_traced, agrees_from, finds_from}
-
-pub own_part_of : (t : ℕ) (run : List Event) → All (λ e. e.thread ≡ t) (part_of t run)
-own_part_of t run =
-    All-weaker (λ (e : Event). (e.thread == t) ≡ true) (λ (e : Event). e.thread ≡ t) (λ e is. eqb-true e.thread t is)
-    (part_of t run) (filter_passes (λ (e : Event). e.thread == t) run)
 
 pub memory_after-append : (memory : ℕ → ℕ) (xs ys : List TracedStep)
     → memory_after memory (xs ++ ys) ≡ memory_after (memory_after memory xs) ys
