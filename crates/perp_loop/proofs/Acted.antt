@@ -20,7 +20,7 @@ use Rattle.tso_words.specs.declared.step.Step.TheVariants.{Load, Swap}
 use Rattle.store_buffer.specs.declared.entry.Entry.{Entry}
 use Rattle.store_buffer.specs.Contents.{Contents, newest_value}
 use Rattle.tso_runs.specs.Drained.{kind_as}
-use Rattle.perp_loop.specs.Actions.{write_from, AreInRange, IsInRange, entries_after, own_steps, logged, ReadsNewest, after}
+use Rattle.perp_loop.specs.Actions.{write_from, AreInRange, IsInRange, entries_after, own_steps, logged, ReadsNewest, left_by_drains}
 use Rattle.tso_runs.specs.SharedSteps.{steps_of}
 use Rattle.perp_loop.specs.Sound.{IsWriteOf}
 use Rattle.tso_runs.proofs.Rest.{event}
@@ -36,7 +36,7 @@ IsEmptyFor (DoLoad reg loc) es = Unit {0}
 IsEmptyFor Fence es = es ≡ []
 IsEmptyFor (Exchange loc written reg) es = es ≡ []
 
-pub empty_after : (action : Instr) (asks : Bool) (buffer : Contents) → IsEmptyFor action (after action asks buffer)
+pub empty_after : (action : Instr) (asks : Bool) (buffer : Contents) → IsEmptyFor action (left_by_drains action asks buffer)
 empty_after (DoStore loc written) asks buffer = tt
 empty_after (DoLoad reg loc) asks buffer = tt
 empty_after Fence asks buffer = drop-length buffer.entries

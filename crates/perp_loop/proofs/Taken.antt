@@ -23,7 +23,7 @@ use Rattle.store_buffer.specs.Contents.{Contents}
 use Rattle.store_buffer.specs.Generator.{asks_drain}
 use Rattle.load_log.specs.Values.{Values}
 use Rattle.perp_base.specs.declared.options.Options.{Options}
-use Rattle.perp_loop.specs.Actions.{write_from, store_step, AreInRange, entries_after, own_steps, logged, due_before, after, Makes}
+use Rattle.perp_loop.specs.Actions.{write_from, store_step, AreInRange, entries_after, own_steps, logged, due_before, left_by_drains, Makes}
 use Rattle.tso_runs.specs.Drained.{kind_as, drains_due}
 use Rattle.tso_runs.specs.SharedSteps.{shared_steps, steps_of}
 use Rattle.perp_loop.specs.Sound.{drain_event, IsWriteOf, IsPosition, IsSound}
@@ -258,7 +258,7 @@ module _ {test : LitmusTest} {table : Table} {options : Options} {t i p : ℕ} {
           let d = due_before action asks buffer in
           let kept = All-drop (λ e. IsWriteOf test t (write_from e)) d buffer.entries sound.own in
           subst (λ (b : Contents). All (λ e. IsWriteOf test t (write_from e)) b.entries) (sym makes.buffered)
-          (own-action test table t i p sound.numbers action (after action asks buffer) at kept)
+          (own-action test table t i p sound.numbers action (left_by_drains action asks buffer) at kept)
 
       pub takes_action : asks ≡ asks_drain drains.seed drains.thread drains.rate drains.taken
           → TakesTurn steps ready kept here port (walking test table options t m' buffer' log') port'
@@ -370,7 +370,7 @@ module _ {test : LitmusTest} {table : Table} {options : Options} {t i p : ℕ} {
                 ∙ ap asking (sym next);
             capacity = ap (λ (b : Contents). b.capacity) makes.buffered ∙ sound.capacity;
             in_range = subst (λ (b : Contents). AreInRange b.entries) (sym makes.buffered)
-                (in_range-action test table t i p sound.numbers action (after action asks buffer)
+                (in_range-action test table t i p sound.numbers action (left_by_drains action asks buffer)
                 (action_in_range test t p action sound.is_test at) (All-drop (λ e. e.loc < 16)
                 (due_before action asks buffer) buffer.entries sound.in_range));
             own = own';

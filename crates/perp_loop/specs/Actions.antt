@@ -75,9 +75,9 @@ CanAct (Exchange loc written reg) capacity entries = entries ≡ []
 abbrev pub due_before : Instr → Bool → Contents → ℕ
 due_before action asks buffer = drains_due (kind_as action 0) buffer.capacity asks (length buffer.entries)
 
--- the entries after the drains before an action
-abbrev pub after : Instr → Bool → Contents → List Entry
-after action asks buffer = drop (due_before action asks buffer) buffer.entries
+-- the entries that the drains before an action leave
+abbrev pub left_by_drains : Instr → Bool → Contents → List Entry
+left_by_drains action asks buffer = drop (due_before action asks buffer) buffer.entries
 
 -- an action is made, with its drains, which writes w in iteration n at place p
 pub record Makes {P : Type 0} (steps : P → List Step) (ready : P → ℕ → Type 0) (kept : P → P → Type 0)
@@ -85,11 +85,11 @@ pub record Makes {P : Type 0} (steps : P → List Step) (ready : P → ℕ → T
     (log' : Values) (port' : P) : Type 0 where
   pub read : ℕ
   pub few : due_before action asks buffer ≤ length buffer.entries
-  pub newest : ReadsNewest action read (after action asks buffer)
-  pub buffered : buffer' ≡ record buffer { entries = entries_after action w n p (after action asks buffer) }
+  pub newest : ReadsNewest action read (left_by_drains action asks buffer)
+  pub buffered : buffer' ≡ record buffer { entries = entries_after action w n p (left_by_drains action asks buffer) }
   pub logs : log' ≡ record log {
     values = log.values ++ logged action read;
     spare = log.spare - length (logged action read);
   }
   pub appends : Appends steps ready kept port port' (map store_step
-      (take (due_before action asks buffer) buffer.entries) ++ own_steps action w read (after action asks buffer))
+      (take (due_before action asks buffer) buffer.entries) ++ own_steps action w read (left_by_drains action asks buffer))
