@@ -22,7 +22,7 @@ use Rattle.run_judge.specs.Judgement.{event_of}
 use Rattle.run_witness.specs.Marks.{Mark, is_storing, loop_of, waiting}
 use Rattle.run_witness.specs.Stage.{slot_write}
 use Rattle.tso_machine.proofs.Runs.{memory_after_event}
-use Rattle.run_judge.proofs.Shown.{newest_push}
+use Rattle.run_judge.proofs.Kept.{newest_push}
 use Rattle.run_witness.proofs.Begun.{after_push}
 use Rattle.run_witness.proofs.Reading.{store_stores}
 use Rattle.run_witness.proofs.Slots.{loop_length, not_store_to, waiting_none, waiting_push}

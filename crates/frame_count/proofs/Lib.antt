@@ -14,3 +14,5 @@ pub mod Reaches
 pub mod Remembered
 pub mod Stretches
 pub mod Thresholds
+pub mod Blocks
+pub mod BlockCounts

@@ -18,7 +18,7 @@ use Rattle.frame_count.proofs.Thresholds.{and_false}
 
 -- iterations of a frame
 
-at_or : (frame : List ℕ) (t : ℕ) → iteration_in frame t ≡ slice_index frame t
+pub at_or : (frame : List ℕ) (t : ℕ) → iteration_in frame t ≡ slice_index frame t
 at_or [] t = refl
 at_or (x ∷ xs) zero = refl
 at_or (x ∷ xs) (suc t) = at_or xs t

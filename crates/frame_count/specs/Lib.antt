@@ -1,3 +1,4 @@
+pub mod Block
 pub mod Count
 pub mod Counted
 pub mod Known

@@ -5,6 +5,13 @@
 //! which differ in the last thread's iteration alone, and `holds` tells of one frame; theirs are counts and values of
 //! `conds_hold`. `frames` and `frame_of` number the frames.
 //!
+//! Frames with the same iterations of the first threads are neighbours in the order of their numbers: a block (`block`,
+//! whose definitions are `specs/Block`). A condition is tested once for a block, at the thread that settles it
+//! (`so_far`). A block of which no conjunction is left has no hit, and one of which a conjunction is settled has no other
+//! frames than hits. The hits of other blocks are remembered: one that leaves the same conjunctions, and has the same
+//! iterations of those first threads of which the conditions that are left speak, has as many. Else its blocks of one
+//! thread more are counted, and at the last thread a row.
+//!
 //! What the other threads' iterations settle of a row is tested once: each conjunction gets a stretch of the last
 //! thread's iterations outside of which it cannot hold (`reach`, its clause `Leaves` of `specs/Row`). Where the last
 //! thread's values never fall, as where one thread writes, the bounds of a stretch are searched for. What is left is
@@ -23,6 +30,7 @@
 #![tactic(auto)]
 
 mod at_frame;
+mod block;
 mod counted;
 mod known;
 mod lanes;
@@ -31,6 +39,7 @@ mod numbers;
 mod pieces;
 mod reach;
 mod row;
+mod so_far;
 mod stretch;
 #[cfg(test)]
 mod tests;

@@ -8,11 +8,13 @@ ghost use Rattle.frame_count.specs.Known.{Tells};
 ghost use Rattle.frame_count.specs.Count.{CanCount, IsOfLogs, number_holds, piece_by_turns, piece_count};
 ghost use Rattle.perp_base.specs.declared.limits.TheConstants.{MOST_FRAMES, MOST_ITERATIONS, MOST_PIECES, MOST_THREADS};
 
+use crate::block::{Place, Task};
 use crate::counted::Counted;
 use crate::known::Known;
 use crate::numbers::{frame_of, power};
 use load_log::Logs;
 use outcome_conv::Conds;
+use perp_base::MOST_CONJUNCTIONS;
 use rayon::prelude::*;
 use std::thread::Threads;
 
@@ -52,18 +54,10 @@ fn piece(
     requires first { Counts conds.now logs.now.logs first.now }
     ensures { result ≡ count_by (number_holds conds.now logs.now.logs n) (range_with_len from (to - from)) }
 {
-    let threads = logs.len();
-    let mut total = 0u64;
-    let mut counted = *first;
-    let mut at = from;
-    while at < to {
-        let start = (at % n as u64) as usize;
-        let row = u64::min(n as u64 - start as u64, to - at);
-        let frame = frame_of(at, n, threads);
-        total += counted.next(conds, logs, known, &frame, start, start + row as usize);
-        at += row;
-    }
-    total
+    let task = Task::new(conds, logs, known, n);
+    let mut place = Place::new(&task, *first);
+    let size = power(n, logs.len());
+    place.count(&task, [true; MOST_CONJUNCTIONS], 0, size, from, to)
 }
 
 /// At how many frames of piece `j` of the cut the conditions hold.
