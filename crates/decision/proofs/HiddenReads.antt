@@ -38,7 +38,7 @@ use Rattle.verdict.proofs.Taken.{FromBuffer, FromMemory, at_least, taken_from}
 use Rattle.decision.proofs.OwnReads.{Hider, OwnRead, never_read, own, own_order}
 
 -- a read that takes from the store at place p in iteration j
-own_read : (test : LitmusTest) (n : ℕ) (run : List Event) (t q p i j : ℕ) (action : Instr) → IsRunOf test n run
+pub own_read : (test : LitmusTest) (n : ℕ) (run : List Event) (t q p i j : ℕ) (action : Instr) → IsRunOf test n run
     → (below : t < length test.bodies) → i < n → action_at test (record { thread = t; place = q }) ≡ Some action
     → is_reading action ≡ true
     → source_at test (record { thread = t; place = q }) i run ≡ Some (own t p j)

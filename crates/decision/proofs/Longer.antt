@@ -210,11 +210,11 @@ loop_cut body (suc m) =
     ap (λ l. l ++ slots_of_body (suc m) 0 body) (loop_cut body m)
     ∙ append_assoc (slots_of_loop body 1) (more_slots body m) (slots_of_body (suc m) 0 body)
 
-record Longer (test : LitmusTest) (m : ℕ) (run : List Event) : Type 0 where
-  events : List Event
-  is_run : IsRunOf test (suc m) (run ++ events)
+pub record Longer (test : LitmusTest) (m : ℕ) (run : List Event) : Type 0 where
+  pub events : List Event
+  pub is_run : IsRunOf test (suc m) (run ++ events)
 
-longer_of : (test : LitmusTest) (m : ℕ) (run : List Event) → IsRunOf test 1 run → Longer test m run
+pub longer_of : (test : LitmusTest) (m : ℕ) (run : List Event) → IsRunOf test 1 run → Longer test m run
 longer_of test m run h =
     let s = after_all test initial run in
     let r = rest_of test (λ t. more_slots (body_of test t) m) (length test.bodies) s h.legal.drained in
@@ -251,7 +251,7 @@ get_first [] ys i l = absurd (omega arith)
 get_first (x ∷ xs) ys zero l = refl
 get_first (x ∷ xs) ys (suc i) l = get_first xs ys i (omega arith)
 
-same_logged : (test : LitmusTest) (run more : List Event) (t column place : ℕ) (action : Instr) → IsRunOf test 1 run
+pub same_logged : (test : LitmusTest) (run more : List Event) (t column place : ℕ) (action : Instr) → IsRunOf test 1 run
     → IsReader test t column place action → logged_in test (run ++ more) t column 0 ≡ logged_in test run t column 0
 same_logged test run more t column place action h r =
     let l = thread_below test t place action r.stands in
@@ -297,7 +297,7 @@ each_below : (k n : ℕ) → 1 ≤ n → Each (λ i. i < n) (replicate k 0)
 each_below zero n l = tt
 each_below (suc k) n l = (omega arith, each_below k n l)
 
-frame_zeros : (test : LitmusTest) (n : ℕ) → 1 ≤ n → IsFrame test n (zeros test)
+pub frame_zeros : (test : LitmusTest) (n : ℕ) → 1 ≤ n → IsFrame test n (zeros test)
 frame_zeros test n l = record {
   one_each = length-replicate (length test.bodies) 0;
   below = All-from_recursion (λ i. i < n) (zeros test) (each_below (length test.bodies) n l);

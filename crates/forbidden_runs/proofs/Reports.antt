@@ -29,7 +29,7 @@ use Rattle.decision.specs.Decisions.{NeverHolds}
 use Rattle.decision.proofs.HiddenReads.{found_never_holds}
 use Rattle.forbidden_runs.specs.Forbidden.{HasReason, IsForbidden}
 use Rattle.forbidden_runs.specs.Laws.{ForbiddenReplaysGiveNoOtherText, ForbiddenRunsGiveNoOtherText, ForbiddenRunsReportNothing, ForbiddenVerdictsForbid, ReasonsForbid}
-use Rattle.forbidden_runs.specs.Texts.{head_text, zero_lines}
+use Rattle.forbidden_runs.specs.Texts.{head_text, zero_lines, zero_text}
 
 -- ---- what forbids
 
@@ -76,12 +76,12 @@ none_among (hit ∷ hits) all =
     absurd (omega arith)
 
 none_listed : (checked : CheckedTest) (n : ℕ) (run : List Event)
-    → IsChecked checked → IsForbidden checked → IsRunOf checked.test n run
+    → IsChecked checked → IsRunOf checked.test n run → hits_of checked.test checked.kinds n run ≡ []
     → picked_hits checked.test n run checked.kinds ≡ []
-none_listed checked n run is forbidden runs =
+none_listed checked n run is runs none =
     none_among (picked_hits checked.test n run checked.kinds)
     (subst (λ (hits : List (List ℕ)). All (Contains hits) (picked_hits checked.test n run checked.kinds))
-    (no_hits checked n run is forbidden runs)
+    none
     (listed_are_hits_lem checked.test n run checked.kinds is.test.holds_reads runs is.kinds))
 
 -- ---- the report of so many hits, and of these listed ones
@@ -126,13 +126,20 @@ zero_report test options Both = rw (word_zero (codes "Exhaustive"), word_zero (c
 
 -- ---- the laws
 
-pub runs_report_nothing : ForbiddenRunsReportNothing
-runs_report_nothing checked job run is forbidden runs =
-    let n = job.options.iterations in
+-- a run without a hit
+pub none_seen : (checked : CheckedTest) (job : Job) (run : List Event) → IsChecked checked
+    → IsRunOf checked.test job.options.iterations run
+    → hits_of checked.test checked.kinds job.options.iterations run ≡ []
+    → text_of checked.test job run ≡ zero_text checked.test job
+none_seen checked job run is runs none =
     text_is checked job run is
     ∙ ap₂ (λ hits listed. report_of (rows_of_counts checked.test job.options job.count hits listed))
-    (ap length (no_hits checked n run is forbidden runs)) (none_listed checked n run is forbidden runs)
+    (ap length none) (none_listed checked job.options.iterations run is runs none)
     ∙ zero_report checked.test job.options job.count
+
+pub runs_report_nothing : ForbiddenRunsReportNothing
+runs_report_nothing checked job run is forbidden runs =
+    none_seen checked job run is runs (no_hits checked job.options.iterations run is forbidden runs)
 
 pub runs_give_no_other_text : ForbiddenRunsGiveNoOtherText
 runs_give_no_other_text checked job done text is forbidden right =

@@ -1,0 +1,13 @@
+pub mod Values
+pub mod Images
+pub mod Rebuilt
+pub mod Readings
+pub mod Atoms
+pub mod Possible
+pub mod Exploring
+pub mod Unordered
+pub mod Examples
+pub mod Framed
+pub mod Framing
+pub mod Counted
+pub mod Steady
