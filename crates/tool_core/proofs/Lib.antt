@@ -1,6 +1,7 @@
 pub mod Dues
 pub mod Endings
 pub mod Answering
+pub mod Requests
 pub mod VerdictSaid
 pub mod ShowingSaid
 pub mod SkewOfRuns

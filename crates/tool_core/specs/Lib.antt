@@ -4,4 +4,5 @@ pub mod Due
 pub mod Texts
 pub mod Showing
 pub mod Top
+pub mod Answering
 pub mod Laws

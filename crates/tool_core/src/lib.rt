@@ -18,6 +18,7 @@ mod number_text;
 mod ordering;
 mod parts;
 mod reasons;
+mod request;
 mod running;
 mod showing;
 mod skews;
@@ -29,13 +30,16 @@ mod words;
 mod work;
 mod writers;
 
+pub use answer::answer_text;
 pub use laws::{judgements_are_repeated, verdicts_are_repeated, written_runs_are_legal};
 pub use perp_loop::{Gate, NoGate};
-pub use program_edge::Outcome;
+pub use program_edge::{Answered, Outcome, Request};
 pub use report_text::{Over, Status};
+pub use request::read_request;
 pub use status::ToolStatus;
 pub use top::tool;
 pub use tso_words::{Done, Field};
+pub use words::Command;
 
 #[cfg(test)]
 mod tests;
