@@ -1,5 +1,6 @@
 -- What follows from the answer to a request, for the request and for the call that it was made in.
 use Rattle.std.proofs.Common.{◌≡◌, ℕ, List, [], Some, None, Ok, Err, string_bytes, IfOk, IfErr, inl, inr, refl, ap, subst}
+use Rattle.std.specs.declared.option.Option.{Option}
 use Rattle.perp_base.specs.View.{View}
 use Rattle.perp_base.specs.declared.source.ReadError.{ReadError}
 use Rattle.perp_base.specs.declared.source.ReadError.TheVariants as read
@@ -14,7 +15,6 @@ use Rattle.tool_core.specs.Answering.{AnswerFits, IsAnswerTo, IsLeftBy, IsUsageO
 use Rattle.tool_core.specs.Due.{IsDue, Refused, call_of, tool_program}
 use Rattle.tool_core.specs.Top.{Answers, IsAnswer, IsStillCommand, Leaves, Ran, iterations_run}
 use Rattle.tool_core.specs.declared.words.Command.{Command}
-use Rattle.tool_core.specs.declared.words.Command.TheVariants.{Judge, Order, Witness, Verdict, Show, Skew}
 use Rattle.tool_core.specs.declared.status.ToolStatus.{ToolStatus}
 use Rattle.tool_core.specs.declared.status.ToolStatus.TheVariants.{Core}
 use Rattle.tool_core.proofs.Dues.{IsOfInput, of_input}
@@ -79,13 +79,12 @@ fits_from request done (Ok t) right = λ command n input test is runs reading.
     (subst (λ (r : Request Command). IsAnswerTo r done (string_bytes t)) is right)
 fits_from request done (Err s) right = λ command n input test is runs reading. tt
 
+none_of : (o : Option ℕ) → ((n : ℕ) × (o ≡ Some n) → ⊥) → o ≡ None
+none_of None other = refl
+none_of (Some n) other = absurd (other (n, refl))
+
 still_command : (command : Command) → ((n : ℕ) × (iterations_run command ≡ Some n) → ⊥) → IsStillCommand command
-still_command Judge other = refl
-still_command Order other = refl
-still_command (Witness n) other = absurd (other (n, refl))
-still_command Verdict other = refl
-still_command Show other = refl
-still_command (Skew n) other = absurd (other (n, refl))
+still_command command other = none_of (iterations_run command) other
 
 still_answer : (command : Command) (input text : List ℕ) (done : Closed) → IsAnswer command input done text
     → ((n : ℕ) × (iterations_run command ≡ Some n) → ⊥) → IsStill done

@@ -5,10 +5,12 @@
 //! (`specs/Top`, by the texts of `specs/Texts` and `specs/Showing`) calls right for the test and the section of the
 //! input. The cause of each status is the clause `ended`; its clauses `usage`, `due` and `too_long` say that each
 //! refusal comes exactly where it is due (`specs/Due`), and `complete` that where none is due and nothing fails the
-//! answer is whole, or memory ran out. The law `written_runs_are_legal` (`specs/Laws`) says that where a legal run of a
-//! test is written after the test's text, no refusal is due, and `Legal` with the number of its events is the one
-//! right answer. By `judgements_are_repeated` and `verdicts_are_repeated` the same words and the same input give the same
-//! text again, but for the cycles of a verdict, of which any are right.
+//! answer is whole, or memory ran out. [`answer_text`] says the same of the bytes that were read, and asks nothing of a
+//! source or a sink (`specs/Answering`): so it speaks of standard input too. The law `written_runs_are_legal`
+//! (`specs/Laws`) says that where a legal run of a test is written after the test's text, no refusal is due, and
+//! `Legal` with the number of its events is the one right answer. By `judgements_are_repeated` and
+//! `verdicts_are_repeated` the same words and the same input give the same text again, but for the cycles of a verdict,
+//! of which any are right.
 #![tactic(auto)]
 
 mod answer;
