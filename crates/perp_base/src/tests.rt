@@ -81,6 +81,32 @@ fn each_piece_takes_one_call(rt: HostRuntime) -> Result<(), Fail> {
     Ok(())
 }
 
+/// A source that gives one byte a call is asked `limit` + 1 times, and no more, whether its input has as many bytes as
+/// the limit or more: the call after those is the first that fails.
+#[test]
+fn no_input_takes_more_calls_than_one_past_the_limit(rt: HostRuntime) -> Result<(), Fail> {
+    let alloc = rt.alloc();
+    for limit in 0..4 {
+        for over in 0..3 {
+            let bytes = &b"abcdef"[..limit + over];
+            let mut source = MemSource::new(alloc, bytes, 1, &[limit as u64 + 2])?;
+            let read = read_input(alloc, &mut source, limit).map(|bytes| bytes.len());
+            let want = if over == 0 {
+                Ok(limit)
+            } else {
+                Err(ReadError::TooLong)
+            };
+            assert_eq!(rt; read, want, "{over} over {limit}");
+            assert_eq!(rt;
+                source.read(&mut [0u8; 1]),
+                Err(Failed),
+                "{over} over {limit}"
+            );
+        }
+    }
+    Ok(())
+}
+
 #[derive(Drop)]
 struct Broken;
 
