@@ -5,7 +5,6 @@ ghost use Rattle.std.specs.List.Sorted.{IsNonDecreasing};
 ghost use Rattle.outcome_conv.specs.Conditions.{IsKind};
 ghost use Rattle.outcome_conv.specs.Conds.{kind_holds};
 ghost use Rattle.frame_count.specs.Row.{is_within, kind_test, mask_along, residue_fits};
-ghost use Rattle.perp_base.specs.declared.limits.TheConstants.{MOST_ITERATIONS};
 
 use outcome_conv::CondKind;
 
@@ -35,7 +34,7 @@ fn reached(value: u64, k: u64, a: u64) -> usize
 
 /// Which of sixty-four iterations are below `end`.
 fn below_word(end: usize, at: usize) -> u64
-    requires at { at + 64 ≤ MOST_ITERATIONS }
+    requires at { at + 64 ≤ 2 ^ 32 }
     ensures { result ≡ mask_along (λ m. nat_lt m end) at 64 }
 {
     if end <= at {
@@ -234,7 +233,7 @@ impl Stretch {
 
     /// Which of sixty-four iterations are in it.
     pub(crate) fn word(self, at: usize) -> u64
-        requires at { at + 64 ≤ MOST_ITERATIONS }
+        requires at { at + 64 ≤ 2 ^ 32 }
         ensures { result ≡ mask_along (is_within self) at 64 }
     {
         below_word(self.to, at) & (u64::MAX - below_word(self.from, at))
