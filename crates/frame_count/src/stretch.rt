@@ -4,7 +4,7 @@ ghost use Rattle.std.specs.List.{range_with_len};
 ghost use Rattle.std.specs.List.Sorted.{IsNonDecreasing};
 ghost use Rattle.outcome_conv.specs.Conditions.{IsKind};
 ghost use Rattle.outcome_conv.specs.Conds.{kind_holds};
-ghost use Rattle.frame_count.specs.Row.{is_within, kind_test, mask_along, residue_fits};
+ghost use Rattle.frame_count.specs.Row.{IsToldBy, is_within, kind_test, mask_along, residue_fits};
 
 use outcome_conv::CondKind;
 
@@ -190,6 +190,24 @@ impl Stretch {
         ensures { result ≡ true → (self.row ≡ false) × (self.own ≡ false) }
     {
         !self.row && !self.own
+    }
+
+    /// Up to and without which iteration a test that it tells of stays as it is in iteration `i`.
+    pub(crate) fn until(self, i: usize, n: usize) -> usize
+        requires { i < n }
+        ensures more { i < result }
+        ensures same { (test : ℕ → Bool) → IsToldBy self n test
+            → (m : ℕ) → i ≤ m → m < result → m < n → test m ≡ test i }
+    {
+        if i < self.from {
+            self.from
+        } else if i >= self.to {
+            n
+        } else if self.is_settled() {
+            self.to
+        } else {
+            i + 1
+        }
     }
 
     /// Whether an iteration is in it.
