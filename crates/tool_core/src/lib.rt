@@ -11,6 +11,7 @@
 #![tactic(auto)]
 
 mod answer;
+mod faithful;
 mod judging;
 mod laws;
 mod number_text;
