@@ -139,12 +139,12 @@ last_count c logs n p from to f e le =
 
 -- At the start.
 
-pub place_new : (task : Task) (place : Place) (b : Block) → 1 ≤ task.n → task.n ≤ 100000
+pub place_new : (task : Task) (place : Place) (b : Block) → 1 ≤ task.n
     → 1 ≤ length task.logs.now.logs → AreWhole task.n task.logs.now.logs
     → Counts task.conds.now task.logs.now.logs place.row
     → place.frame ≡ replicate (length task.logs.now.logs) 0 → place.blocks ≡ replicate 2048 b → b.fixed ≡ 0
     → length b.iterations ≡ 8 → length b.alive ≡ 8 → IsPlace task place
-place_new task place b some few thread whole row frame blocks none its alive = record {
+place_new task place b some thread whole row frame blocks none its alive = record {
   frame = record {
     whole = whole;
     some = thread;
@@ -154,7 +154,6 @@ place_new task place b some few thread whole row frame blocks none its alive = r
         let long = ap length frame ∙ length-replicate t 0 in
         let e : get_or place.frame k d ≡ 0 = ap (λ z. get_or z k d) frame ∙ get_or-replicate t k 0 d (omega arith) in
         omega arith;
-    few = few;
   };
   row = row;
   many = ap length blocks ∙ length-replicate 2048 b;
@@ -193,7 +192,6 @@ set_frame logs n p i f h lt = record {
   some = h.some;
   one_each = length-set f p i ∙ h.one_each;
   below = λ k d l. go k d (let long = length-set f p i in omega arith) (cases_eq k p);
-  few = h.few;
 }
   where
     go : (k d : ℕ) → k < length f → (k ≡ p) ⊎ (k ≡ p → ⊥) → get_or (set f p i) k d < n

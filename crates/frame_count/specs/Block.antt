@@ -2,7 +2,7 @@
 -- (this project's own).
 use Rattle.std.specs.Prelude.{◌≡◌, ℕ, ◌+◌, ◌-◌, ◌^◌, ◌<◌, ◌≤◌, ◌&&◌, ◌||◌, Bool, true, not, List, ◌++◌, All, count_by, length, nat_lt, slice_index, slice_index_or, take}
 use Rattle.std.specs.List.{list_all, range_with_len}
-use Rattle.perp_base.specs.declared.limits.TheConstants.{MOST_FRAMES}
+use Rattle.perp_base.specs.declared.limits.TheConstants.{MOST_FRAMES, MOST_ITERATIONS}
 use Rattle.x86_subset.specs.Conjunctions.{conjunction_of}
 use Rattle.load_log.specs.Values.{Values, value_at}
 use Rattle.tso_machine.specs.Frame.{frame_of}
@@ -76,6 +76,7 @@ pub record IsRemembered (c : Conditions) (logs : List Values) (n : ℕ) (b : Blo
 -- what is counted
 pub record IsTask (task : Task) : Type 0 where
   pub some : 1 ≤ task.n
+  pub iterations : task.n ≤ MOST_ITERATIONS
   pub threads : task.threads ≡ length task.logs.now.logs
   pub most : task.threads ≤ 8
   pub few : task.n ^ task.threads ≤ MOST_FRAMES

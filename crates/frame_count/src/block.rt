@@ -66,7 +66,7 @@ fn settled_by(conds: &Conds) -> [usize; MOST_CONJUNCTIONS]
 impl<'a> Task<'a> {
     /// The count over so many iterations.
     pub(crate) fn new(conds: &'a Conds, logs: &'a Logs, known: &'a Known, n: u32) -> Task<'a>
-        requires some { 1 ≤ n }
+        requires iterations { (1 ≤ n) × (n ≤ MOST_ITERATIONS) }
         requires threads { length logs.now.logs ≤ 8 }
         requires few { n ^ length logs.now.logs ≤ MOST_FRAMES }
         requires names { All (IsOfLogs logs.now.logs) conds.now.conds }
@@ -163,7 +163,7 @@ impl Place {
     /// The first frame.
     pub(crate) fn new(task: &Task, row: Counted) -> Place
         requires threads { (1 ≤ length task.now.logs.now.logs) × (length task.now.logs.now.logs ≤ 8) }
-        requires iterations { (1 ≤ task.now.n) × (task.now.n ≤ MOST_ITERATIONS) }
+        requires some { 1 ≤ task.now.n }
         requires whole { AreWhole task.now.n task.now.logs.now.logs }
         requires row { Counts task.now.conds.now task.now.logs.now.logs row }
         ensures { IsPlace task.now result }

@@ -7,7 +7,7 @@ use Rattle.report_text.specs.declared.status.Status.TheVariants.{Whole, Memory, 
 use Rattle.perp_base.specs.Bytes.{GaveAll, IsOver}
 use Rattle.perp_base.specs.Causes.{Rose}
 use Rattle.perp_base.specs.View.{View}
-use Rattle.program_edge.specs.Ending.{Call, Ended, IsStillOr, IsUsage, Refused}
+use Rattle.program_edge.specs.Ending.{Call, Ended, IsOutOfMemory, IsStillOr, IsUsage, Refused}
 use Rattle.program_edge.specs.Ending.Ended.{ended_refused, ended_whole, ended_part}
 use Rattle.program_edge.specs.Ending.Refused.{no_memory, no_command, no_reading, too_long, no_input}
 use Rattle.program_edge.specs.Field.{IsStill}
@@ -173,6 +173,15 @@ module _ {C S : Type 0} {call : Call C S} {answers : List ℕ → Type 0} {told 
   part_of _ (ended_part text answer rose (n, less, written)) = λ before told_out _.
       (text, answer, n, less, appended_is out_old.bytes out_new.bytes before (take n text) told_out written)
   part_of _ (ended_refused status why leaves kept) = λ _ _ e. absurd (refused_has_no_text laws status why (inr e))
+
+  pub memory_of : (status : S)
+      → Ended call answers ran done out_old out_new untouched status → IsOutOfMemory call.core done ran status
+  memory_of _ (ended_whole text answer written) = λ e.
+      let same : Whole ≡ Memory = laws.core_one Whole Memory e in absurd (cc)
+  memory_of _ (ended_part text answer rose written) = λ e.
+      let same : WriteFault ≡ Memory = laws.core_one WriteFault Memory e in absurd (cc)
+  memory_of _ (ended_refused status why (inl still) kept) = λ _. inl still
+  memory_of _ (ended_refused status why (inr out) kept) = λ _. inr out.1
 
   -- ---- words that are no command
 

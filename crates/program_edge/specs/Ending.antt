@@ -38,6 +38,10 @@ pub data Refused {C S : Type 0} (call : Call C S) : S → Type 0 where
 abbrev pub IsStillOr : {S : Type 0} → (Status → S) → Closed → Type 0 → S → Type 0
 IsStillOr core done ran status = IsStill done ⊎ ((status ≡ core Memory) × ran)
 
+-- Where memory ran out no step was made on the field, or the run of an input that was accepted was made.
+abbrev pub IsOutOfMemory : {S : Type 0} → (Status → S) → Closed → Type 0 → S → Type 0
+IsOutOfMemory core done ran status = status ≡ core Memory → IsStill done ⊎ ran
+
 -- How a call may end: with a refusal, which leaves `out` untouched, with the whole text, or with a part of it.
 pub data Ended {C S : Type 0} (call : Call C S) (answers : List ℕ → Type 0) (ran : Type 0) (done : Closed)
     (out_old out_new : View) (untouched : Type 0) : S → Type 0 where

@@ -2,3 +2,4 @@ pub mod View
 pub mod Form
 pub mod Field
 pub mod Ending
+pub mod Request

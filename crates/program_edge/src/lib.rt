@@ -7,13 +7,16 @@
 //! call ends stands in `specs/Ending`, for the commands and the statuses of any program. `run_test` runs the threads of
 //! a test on a field: some run of x86-TSO fits what they did there, and each that fits has the logs (its clause `ran`,
 //! by `HasRunOn`); where memory ran out they did nothing (`still`). A field on which nothing is run is closed by
-//! `close_unused`. An `Answered` is a text, or why there is none, with the closed field. `words_of` gives the words of
-//! a program, or the number with which it ends where it gets none.
+//! `close_unused`. A `Request` is what the words and the source ask of a program, with the bytes that were read by
+//! `input_of`; what is said of its answer in `specs/Request` asks nothing of a source or a sink. An `Answered` is a
+//! text, or why there is none, with the closed field. `words_of` gives the words of a program, or the number with which
+//! it ends where it gets none.
 #![tactic(auto)]
 
 mod answered;
 mod closing;
 mod reading;
+mod request;
 mod running;
 mod words;
 mod writing;
@@ -21,6 +24,7 @@ mod writing;
 pub use answered::{Answered, Outcome};
 pub use closing::close_unused;
 pub use reading::{check_test, read_test};
+pub use request::{Request, input_of};
 pub use running::{Ran, run_test};
 pub use words::{NO_MEMORY, NO_WORDS, words_of};
 pub use writing::{deliver, put_line};

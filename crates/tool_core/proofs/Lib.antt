@@ -10,3 +10,4 @@ pub mod OrderFound
 pub mod ColumnCounts
 pub mod RunWidths
 pub mod RunJudged
+pub mod Repeats

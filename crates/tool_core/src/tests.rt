@@ -4,6 +4,7 @@ ghost use Rattle.std.specs.Io.{ReadsAtMost};
 ghost use Rattle.std.specs.Io.KnownBytes.{ReadConsumes};
 ghost use Rattle.perp_base.specs.Causes.{HasCause};
 
+mod meeting;
 mod rows;
 mod shown;
 
@@ -90,7 +91,29 @@ const NEVER: Failing = Failing {
     line: 0,
 };
 
-/// A call over sinks that move at most 16 bytes at a time.
+/// A call with a gate over sinks that move at most 16 bytes at a time.
+fn call_at<R: Threads + Sync, S: Source, G: Gate>(
+    rt: &R,
+    alloc: Global,
+    line: &str,
+    source: &mut S,
+    failing: Failing,
+    gate: &G,
+) -> Result<Called, Fail> {
+    let words = words_of(alloc, line)?;
+    let mut out = MemSink::new(alloc, 65536, 16, &[failing.write])?;
+    let mut err = MemSink::new(alloc, 128, 16, &[failing.line])?;
+    let field = Field::new(alloc)?;
+    let outcome = tool(rt, alloc, &words, source, &mut out, &mut err, field, gate);
+    Ok(Called {
+        status: outcome.status,
+        out,
+        err,
+        words: (outcome.done.word(0), outcome.done.word(1)),
+    })
+}
+
+/// The same without one.
 fn call_on<R: Threads + Sync, S: Source>(
     rt: &R,
     alloc: Global,
@@ -98,19 +121,7 @@ fn call_on<R: Threads + Sync, S: Source>(
     source: &mut S,
     failing: Failing,
 ) -> Result<Called, Fail> {
-    let words = words_of(alloc, line)?;
-    let mut out = MemSink::new(alloc, 65536, 16, &[failing.write])?;
-    let mut err = MemSink::new(alloc, 128, 16, &[failing.line])?;
-    let field = Field::new(alloc)?;
-    let outcome = tool(
-        rt, alloc, &words, source, &mut out, &mut err, field, &NoGate,
-    );
-    Ok(Called {
-        status: outcome.status,
-        out,
-        err,
-        words: (outcome.done.word(0), outcome.done.word(1)),
-    })
+    call_at(rt, alloc, line, source, failing, &NoGate)
 }
 
 /// A call over a source that gives at most 16 bytes at a time.
