@@ -1,7 +1,9 @@
 pub mod Dues
 pub mod Endings
 pub mod Answering
+pub mod Ruling
 pub mod VerdictSaid
+pub mod FaithSaid
 pub mod ShowingSaid
 pub mod SkewOfRuns
 pub mod WitnessOfRuns

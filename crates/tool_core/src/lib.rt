@@ -12,6 +12,7 @@
 #![tactic(auto)]
 
 mod answer;
+mod faithful;
 mod judging;
 mod laws;
 mod number_text;
