@@ -33,7 +33,7 @@ class Ran:
     """One run: its status, its output and its seconds. `more` is put into its environment."""
 
     def __init__(self, words, text, cores=None, limit=600, program=PERPLE, more=None):
-        command = [program] + [str(word) for word in words]
+        command = [program] + [word if isinstance(word, bytes) else str(word) for word in words]
         if cores is not None:
             command = ["taskset", "-c", cores] + command
         before = time.perf_counter()

@@ -1,5 +1,5 @@
 //! Calls of the second program over memory sources and sinks, row by row.
-ghost use Rattle.std.specs.Prelude.{◌<◌, None, length};
+ghost use Rattle.std.specs.Prelude.{◌≡◌, ◌<◌, ◌+◌, None, length};
 ghost use Rattle.std.specs.Io.{ReadsAtMost};
 ghost use Rattle.std.specs.Io.KnownBytes.{ReadConsumes};
 ghost use Rattle.perp_base.specs.Causes.{HasCause};
@@ -9,7 +9,7 @@ mod rows;
 mod shown;
 
 use super::*;
-use perp_base::{Failed, MemSink, MemSource, Source};
+use perp_base::{Calls, Failed, MemSink, MemSource, Source};
 use rows::ROWS;
 use std::alloc::Global;
 use std::process::Abort;
@@ -341,18 +341,22 @@ fn prefixes_are_answered(rt: HostRuntime) -> Result<(), Fail> {
 }
 
 /// A source of blanks without an end.
-#[derive(Clone, Copy)]
-struct Blanks;
+#[derive(Drop)]
+struct Blanks {
+    calls: Calls,
+}
 
 impl Source for Blanks {
-    ghost seen = { λ _. record { bytes = None; faults = 0 } };
+    ghost seen = { λ blanks. record { bytes = None; faults = 0; calls = blanks.calls.made } };
 
     fn read(&mut self, buf: &mut [u8]) -> Result<usize, Failed>
         requires { 0 < length buf.old }
         ensures bound { ReadsAtMost result buf.new }
         ensures bytes { ReadConsumes None None result buf.new }
         ensures cause { HasCause 0 0 result }
+        ensures called { self.new.calls.made ≡ self.old.calls.made + 1 }
     {
+        self.calls = self.calls.and_one();
         buf.fill(b' ');
         Ok(buf.len())
     }
@@ -382,7 +386,10 @@ fn long_litmus_parts_are_refused(rt: HostRuntime) -> Result<(), Fail> {
 fn inputs_without_an_end_are_refused(rt: HostRuntime) -> Result<(), Fail> {
     let alloc = rt.alloc();
     for line in ["judge", "order", "witness 1", "verdict", "skew 1"] {
-        let called = call_on(&rt, alloc, line, &mut Blanks, NEVER)?;
+        let mut blanks = Blanks {
+            calls: Calls::none(),
+        };
+        let called = call_on(&rt, alloc, line, &mut blanks, NEVER)?;
         assert_ended(
             &rt,
             &called,
