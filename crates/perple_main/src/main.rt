@@ -3,12 +3,12 @@
 #![tactic(auto)]
 
 use perp_base::{StdSink, StdSource};
-use perple_core::{Field, NoGate, Outcome, Status, perple};
+use perple_core::{Field, NoGate, Outcome, perple};
 use program_edge::{Unmade, ending, words_of};
 use std::process::ExitCode;
 
 /// The program's one call; or why it is not made.
-fn call(rt: &HostRuntime) -> Result<Outcome<Status>, Unmade> {
+fn call(rt: &HostRuntime) -> Result<Outcome, Unmade> {
     let words = words_of(rt)?;
     let field = Field::new(rt.alloc())?;
     let mut source = StdSource::new(rt.stdin());

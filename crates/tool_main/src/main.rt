@@ -5,10 +5,10 @@
 use perp_base::{StdSink, StdSource};
 use program_edge::{Unmade, ending, words_of};
 use std::process::ExitCode;
-use tool_core::{Field, NoGate, Outcome, ToolStatus, tool};
+use tool_core::{Field, NoGate, ToolOutcome, tool};
 
 /// The program's one call; or why it is not made.
-fn call(rt: &HostRuntime) -> Result<Outcome<ToolStatus>, Unmade> {
+fn call(rt: &HostRuntime) -> Result<ToolOutcome, Unmade> {
     let words = words_of(rt)?;
     let field = Field::new(rt.alloc())?;
     let mut source = StdSource::new(rt.stdin());
