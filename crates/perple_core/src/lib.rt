@@ -16,10 +16,12 @@ mod work;
 pub use command_words::{Command, Count, Job, WordsError, read_words};
 pub use demo_text::demo_text;
 pub use perp_loop::{Gate, NoGate, Options};
-pub use program_edge::Outcome;
 pub use report_text::Status;
 pub use top::perple;
 pub use tso_words::{Done, Field};
+
+/// How a call of [`perple`] ended, and the field that it was given, closed.
+pub type Outcome = program_edge::Outcome<Status>;
 
 #[cfg(test)]
 mod tests;

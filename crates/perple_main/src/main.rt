@@ -3,7 +3,7 @@
 #![tactic(auto)]
 
 use perp_base::{Sink, Source, StdSink, StdSource};
-use perple_core::{Field, NoGate, Outcome, Status, perple};
+use perple_core::{Field, NoGate, Outcome, perple};
 use program_edge::{Unmade, ending, words_of};
 use std::process::ExitCode;
 use std::rt::Env;
@@ -15,7 +15,7 @@ fn call<R: Threads + Sync + Env + AllocGlobal, S: Source, O: Sink, E: Sink>(
     source: &mut S,
     out: &mut O,
     err: &mut E,
-) -> Result<Outcome<Status>, Unmade> {
+) -> Result<Outcome, Unmade> {
     let words = words_of(rt)?;
     let field = Field::new(rt.alloc())?;
     Ok(perple(rt, rt.alloc(), &words, source, out, err, field, &NoGate))

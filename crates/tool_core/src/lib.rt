@@ -32,11 +32,13 @@ mod writers;
 
 pub use laws::{judgements_are_repeated, verdicts_are_repeated, written_runs_are_legal};
 pub use perp_loop::{Gate, NoGate};
-pub use program_edge::Outcome;
 pub use report_text::{Over, Status};
 pub use status::ToolStatus;
 pub use top::tool;
 pub use tso_words::{Done, Field};
+
+/// How a call of [`tool`] ended, and the field that it was given, closed.
+pub type ToolOutcome = program_edge::Outcome<ToolStatus>;
 
 #[cfg(test)]
 mod tests;

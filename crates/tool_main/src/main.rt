@@ -7,7 +7,7 @@ use program_edge::{Unmade, ending, words_of};
 use std::process::ExitCode;
 use std::rt::Env;
 use std::thread::Threads;
-use tool_core::{Field, NoGate, Outcome, ToolStatus, tool};
+use tool_core::{Field, NoGate, ToolOutcome, tool};
 
 /// The program's one call; or why it is not made.
 fn call<R: Threads + Sync + Env + AllocGlobal, S: Source, O: Sink, E: Sink>(
@@ -15,7 +15,7 @@ fn call<R: Threads + Sync + Env + AllocGlobal, S: Source, O: Sink, E: Sink>(
     source: &mut S,
     out: &mut O,
     err: &mut E,
-) -> Result<Outcome<ToolStatus>, Unmade> {
+) -> Result<ToolOutcome, Unmade> {
     let words = words_of(rt)?;
     let field = Field::new(rt.alloc())?;
     Ok(tool(rt, rt.alloc(), &words, source, out, err, field, &NoGate))
