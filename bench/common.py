@@ -13,9 +13,11 @@ STARTERS = {PERPLE: "perple", TOOL: "perple_tool"}
 
 
 def build(program=PERPLE):
-    """Has a program built, as its first user would, where it is not there yet."""
+    """Has a program built, as its first user would, where it is not there yet; not where PERPLE_AS_BUILT is set."""
     if os.access(program, os.X_OK):
         return
+    if os.environ.get("PERPLE_AS_BUILT"):
+        sys.exit("the program is not built")
     subprocess.run([os.path.join(TOP, STARTERS[program]), "nothing"],
                    stdin=subprocess.DEVNULL, stdout=subprocess.DEVNULL, check=False)
     if not os.access(program, os.X_OK):
@@ -31,7 +33,7 @@ class Ran:
     """One run: its status, its output and its seconds. `more` is put into its environment."""
 
     def __init__(self, words, text, cores=None, limit=600, program=PERPLE, more=None):
-        command = [program] + [str(word) for word in words]
+        command = [program] + [word if isinstance(word, bytes) else str(word) for word in words]
         if cores is not None:
             command = ["taskset", "-c", cores] + command
         before = time.perf_counter()

@@ -19,9 +19,9 @@
 //! logged, each word of its column is known before (`known`, its clause `Tells` of `specs/Known`), and lanes test those
 //! alone that the bound of a row cuts.
 //!
-//! A row with the bounds and stretches of the row that is remembered, of which no test is left that changes from row to
-//! row, has as many hits; so it is counted in one step (`Counted::next`). What the last thread reads of its own stores
-//! is tested in one row for many.
+//! The tests that are left of a row may be the same in every row. Where they are, a row with the bounds and stretches
+//! of the remembered row has as many hits as that one: it is counted in one step (`Counted::next`). So what the last
+//! thread reads of its own stores is tested in one row for many.
 //!
 //! What that means for the logs of a run is said by the laws of `specs/RunLogs`: the count is the number of hits of the
 //! run (`counts_are_hits`), that of a row the number of its hits (`rows_count_hits`), and what `outcome_conv` says of
@@ -43,6 +43,7 @@ mod so_far;
 mod stretch;
 #[cfg(test)]
 mod tests;
+mod until;
 
 pub use at_frame::holds;
 pub use laws::{counts_are_hits, logs_give_the_values, logs_meet_the_conditions, rows_count_hits};

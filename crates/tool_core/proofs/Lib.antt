@@ -1,7 +1,9 @@
 pub mod Dues
 pub mod Endings
 pub mod Answering
+pub mod Ruling
 pub mod VerdictSaid
+pub mod FaithSaid
 pub mod ShowingSaid
 pub mod SkewOfRuns
 pub mod WitnessOfRuns
@@ -10,3 +12,4 @@ pub mod OrderFound
 pub mod ColumnCounts
 pub mod RunWidths
 pub mod RunJudged
+pub mod Repeats

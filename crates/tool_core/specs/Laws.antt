@@ -1,11 +1,13 @@
 -- What the commands say of texts that are written for them. This project's own.
-use Rattle.std.specs.Prelude.{◌≡◌, ℕ, ◌≤◌, List, ◌++◌, None, codes, length, map}
+use Rattle.std.specs.Prelude.{◌≡◌, ◌⊎◌, ℕ, ◌≤◌, List, ◌++◌, None, Some, codes, length, map}
 use Rattle.perp_base.specs.declared.limits.TheConstants.{MOST_BYTES, MOST_ITERATIONS}
+use Rattle.perp_base.specs.View.{View}
 use Rattle.x86_subset.specs.Test.{LitmusTest}
 use Rattle.tso_machine.specs.Run.{IsRunOf}
 use Rattle.litmus_reader.specs.Answer.{Accepted}
 use Rattle.litmus_reader.specs.Reading.{Reads}
 use Rattle.report_text.specs.Words.{number_line}
+use Rattle.report_text.specs.declared.status.Status.TheVariants.{Whole}
 use Rattle.tso_words.specs.Seats.{Ended as Closed}
 use Rattle.program_edge.specs.Field.{IsStill}
 use Rattle.run_judge.specs.Judgement.{event_of}
@@ -13,8 +15,12 @@ use Rattle.run_judge.specs.declared.event.RunEvent.{RunEvent}
 use Rattle.run_text.specs.Laws.{CanLead}
 use Rattle.run_text.specs.Runs.{run_text_of}
 use Rattle.tool_core.specs.Due.{IsDue}
-use Rattle.tool_core.specs.Top.{IsAnswer}
-use Rattle.tool_core.specs.declared.words.Command.TheVariants.{Judge}
+use Rattle.verdict.specs.declared.node.Node.{Node}
+use Rattle.tool_core.specs.Texts.{forbidden_text}
+use Rattle.tool_core.specs.Top.{IsAnswer, WritesWhole}
+use Rattle.tool_core.specs.Words.{command_of}
+use Rattle.tool_core.specs.declared.words.Command.TheVariants.{Judge, Verdict}
+use Rattle.tool_core.specs.declared.status.ToolStatus.TheVariants.{Core}
 
 -- for the command judge no refusal is due for the input, and this text answers it, and no other does
 pub record IsJudgedSo (input text : List ℕ) : Type 0 where
@@ -33,3 +39,37 @@ WrittenRunsAreLegal =
     → n ≤ MOST_ITERATIONS
     → IsRunOf test n (map event_of events)
     → IsJudgedSo (litmus ++ run_text_of n events) (number_line (codes "Legal") (length events))
+
+-- ---- two calls of the same words and the same input
+
+-- What the clause `whole` says of a call that ended with 0: its source told that it had this input left, and its output
+-- has this text after what it had before.
+pub record CallOf (words : List (List ℕ)) (input text : List ℕ) : Type 0 where
+  pub old : View
+  pub done : Closed
+  pub out_old : View
+  pub out_new : View
+  pub before : List ℕ
+  pub whole : WritesWhole words old done out_old out_new (Core Whole)
+  pub told : old.bytes ≡ Some input
+  pub held : out_old.bytes ≡ Some before
+  pub got : out_new.bytes ≡ Some (before ++ text)
+
+-- law: two calls of `judge` write the same text
+abbrev pub JudgementsAreRepeated : Type 0
+JudgementsAreRepeated = (words : List (List ℕ)) (input a b : List ℕ)
+    → command_of words ≡ Some Judge → CallOf words input a → CallOf words input b → a ≡ b
+
+-- the text tells a cycle for each conjunction
+pub record TellsCycles (text : List ℕ) : Type 0 where
+  pub cycles : List (List Node)
+  pub is : text ≡ forbidden_text cycles
+
+-- the texts are the same, or both tell cycles
+abbrev pub AreVerdictsOfOne : List ℕ → List ℕ → Type 0
+AreVerdictsOfOne a b = (a ≡ b) ⊎ (TellsCycles a × TellsCycles b)
+
+-- law: so do two calls of `verdict`, but for which cycles they tell where each conjunction has one
+abbrev pub VerdictsAreRepeated : Type 0
+VerdictsAreRepeated = (words : List (List ℕ)) (input a b : List ℕ)
+    → command_of words ≡ Some Verdict → CallOf words input a → CallOf words input b → AreVerdictsOfOne a b

@@ -1,7 +1,9 @@
 pub mod Status
 pub mod Words
 pub mod Due
+pub mod RuledOut
 pub mod Texts
 pub mod Showing
+pub mod Faithful
 pub mod Top
 pub mod Laws

@@ -1,11 +1,11 @@
 //! The answer to the words and the input, before anything is written: a text or a refusal, and the closed field.
-ghost use Rattle.std.specs.Prelude.{◌≡◌, ◌≤◌, ◌⊎◌, length, IfOk, IfErr, Some, string_bytes};
+ghost use Rattle.std.specs.Prelude.{◌≡◌, ◌≤◌, ◌⊎◌, length, IfOk, IfErr, None, Some, string_bytes};
 ghost use Rattle.perp_base.specs.Bytes.{GaveAll};
 ghost use Rattle.program_edge.specs.View.{bytes_of};
 ghost use Rattle.tool_core.specs.Due.{IsDue, IsInputRefusal, Refused};
 ghost use Rattle.tool_core.specs.Status.{HasToolKind};
 ghost use Rattle.tool_core.specs.Top.{Answers, IsAnswer, IsStillOrRan, Leaves};
-ghost use Rattle.tool_core.specs.Words.{HasIterations};
+ghost use Rattle.tool_core.specs.Words.{HasIterations, command_of};
 
 use crate::parts::parts_in;
 use crate::status::ToolStatus;
@@ -80,6 +80,7 @@ pub fn answer<R: Threads + Sync, S: Source, G: Gate>(
     ensures err { IfErr result.text (Refused (bytes_of words.now) (S.seen source.old) (S.seen source.new)) }
     ensures done { IfErr result.text (Leaves (bytes_of words.now) (S.seen source.old) (S.seen source.new) result.done) }
     ensures kind { IfErr result.text HasToolKind }
+    ensures misused { command_of (bytes_of words.now) ≡ None → source.new ≡ source.old }
 {
     let command = match read_words(alloc, words) {
         Ok(command) => command,

@@ -1,7 +1,17 @@
 //! What the commands say of texts that are written for them.
-ghost use Rattle.tool_core.specs.Laws.{WrittenRunsAreLegal};
+ghost use Rattle.tool_core.specs.Laws.{JudgementsAreRepeated, VerdictsAreRepeated, WrittenRunsAreLegal};
 
 /// A legal run of a test that is written after the test's text is called legal.
 pub fn written_runs_are_legal()
     ensures { WrittenRunsAreLegal }
+{}
+
+/// Two calls of `judge` with the same words on the same input, which both end with 0, write the same text.
+pub fn judgements_are_repeated()
+    ensures { JudgementsAreRepeated }
+{}
+
+/// Two such calls of `verdict` write the same text, but for which cycles they tell where each conjunction has one.
+pub fn verdicts_are_repeated()
+    ensures { VerdictsAreRepeated }
 {}

@@ -7,10 +7,12 @@
 //! refusal comes exactly where it is due (`specs/Due`), and `complete` that where none is due and nothing fails the
 //! answer is whole, or memory ran out. The law `written_runs_are_legal` (`specs/Laws`) says that where a legal run of a
 //! test is written after the test's text, no refusal is due, and `Legal` with the number of its events is the one
-//! right answer.
+//! right answer. By `judgements_are_repeated` and `verdicts_are_repeated` the same words and the same input give the same
+//! text again, but for the cycles of a verdict, of which any are right.
 #![tactic(auto)]
 
 mod answer;
+mod faithful;
 mod judging;
 mod laws;
 mod number_text;
@@ -28,7 +30,7 @@ mod words;
 mod work;
 mod writers;
 
-pub use laws::written_runs_are_legal;
+pub use laws::{judgements_are_repeated, verdicts_are_repeated, written_runs_are_legal};
 pub use perp_loop::{Gate, NoGate};
 pub use program_edge::Outcome;
 pub use report_text::{Over, Status};

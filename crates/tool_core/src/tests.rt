@@ -1,14 +1,15 @@
 //! Calls of the second program over memory sources and sinks, row by row.
-ghost use Rattle.std.specs.Prelude.{◌<◌, None, length};
+ghost use Rattle.std.specs.Prelude.{◌≡◌, ◌<◌, ◌+◌, None, length};
 ghost use Rattle.std.specs.Io.{ReadsAtMost};
 ghost use Rattle.std.specs.Io.KnownBytes.{ReadConsumes};
 ghost use Rattle.perp_base.specs.Causes.{HasCause};
 
+mod meeting;
 mod rows;
 mod shown;
 
 use super::*;
-use perp_base::{Failed, MemSink, MemSource, Source};
+use perp_base::{Calls, Failed, MemSink, MemSource, Source};
 use rows::ROWS;
 use std::alloc::Global;
 use std::process::Abort;
@@ -90,7 +91,29 @@ const NEVER: Failing = Failing {
     line: 0,
 };
 
-/// A call over sinks that move at most 16 bytes at a time.
+/// A call with a gate over sinks that move at most 16 bytes at a time.
+fn call_at<R: Threads + Sync, S: Source, G: Gate>(
+    rt: &R,
+    alloc: Global,
+    line: &str,
+    source: &mut S,
+    failing: Failing,
+    gate: &G,
+) -> Result<Called, Fail> {
+    let words = words_of(alloc, line)?;
+    let mut out = MemSink::new(alloc, 65536, 16, &[failing.write])?;
+    let mut err = MemSink::new(alloc, 128, 16, &[failing.line])?;
+    let field = Field::new(alloc)?;
+    let outcome = tool(rt, alloc, &words, source, &mut out, &mut err, field, gate);
+    Ok(Called {
+        status: outcome.status,
+        out,
+        err,
+        words: (outcome.done.word(0), outcome.done.word(1)),
+    })
+}
+
+/// The same without one.
 fn call_on<R: Threads + Sync, S: Source>(
     rt: &R,
     alloc: Global,
@@ -98,19 +121,7 @@ fn call_on<R: Threads + Sync, S: Source>(
     source: &mut S,
     failing: Failing,
 ) -> Result<Called, Fail> {
-    let words = words_of(alloc, line)?;
-    let mut out = MemSink::new(alloc, 65536, 16, &[failing.write])?;
-    let mut err = MemSink::new(alloc, 128, 16, &[failing.line])?;
-    let field = Field::new(alloc)?;
-    let outcome = tool(
-        rt, alloc, &words, source, &mut out, &mut err, field, &NoGate,
-    );
-    Ok(Called {
-        status: outcome.status,
-        out,
-        err,
-        words: (outcome.done.word(0), outcome.done.word(1)),
-    })
+    call_at(rt, alloc, line, source, failing, &NoGate)
 }
 
 /// A call over a source that gives at most 16 bytes at a time.
@@ -330,18 +341,22 @@ fn prefixes_are_answered(rt: HostRuntime) -> Result<(), Fail> {
 }
 
 /// A source of blanks without an end.
-#[derive(Clone, Copy)]
-struct Blanks;
+#[derive(Drop)]
+struct Blanks {
+    calls: Calls,
+}
 
 impl Source for Blanks {
-    ghost seen = { λ _. record { bytes = None; faults = 0 } };
+    ghost seen = { λ blanks. record { bytes = None; faults = 0; calls = blanks.calls.made } };
 
     fn read(&mut self, buf: &mut [u8]) -> Result<usize, Failed>
         requires { 0 < length buf.old }
         ensures bound { ReadsAtMost result buf.new }
         ensures bytes { ReadConsumes None None result buf.new }
         ensures cause { HasCause 0 0 result }
+        ensures called { self.new.calls.made ≡ self.old.calls.made + 1 }
     {
+        self.calls = self.calls.and_one();
         buf.fill(b' ');
         Ok(buf.len())
     }
@@ -371,7 +386,10 @@ fn long_litmus_parts_are_refused(rt: HostRuntime) -> Result<(), Fail> {
 fn inputs_without_an_end_are_refused(rt: HostRuntime) -> Result<(), Fail> {
     let alloc = rt.alloc();
     for line in ["judge", "order", "witness 1", "verdict", "skew 1"] {
-        let called = call_on(&rt, alloc, line, &mut Blanks, NEVER)?;
+        let mut blanks = Blanks {
+            calls: Calls::none(),
+        };
+        let called = call_on(&rt, alloc, line, &mut blanks, NEVER)?;
         assert_ended(
             &rt,
             &called,

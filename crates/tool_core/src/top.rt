@@ -1,8 +1,9 @@
 //! The second program's top call.
-ghost use Rattle.std.specs.Prelude.{◌≡◌};
+ghost use Rattle.std.specs.Prelude.{◌≡◌, None};
 ghost use Rattle.program_edge.specs.View.{bytes_of, Wrote};
 ghost use Rattle.tool_core.specs.Status.{tool_line};
 ghost use Rattle.tool_core.specs.Top.{Ended, Completes, IsUsage, RunFits, WritesWhole, WritesPart, ReadsToEnd, KeepsSource, AnswersDue, AnswersTooLong, IsField, SuitsCommand};
+ghost use Rattle.tool_core.specs.Words.{command_of};
 
 use crate::answer::answer;
 use crate::status::ToolStatus;
@@ -49,6 +50,7 @@ pub fn tool<R: Threads + Sync, S: Source, O: Sink, E: Sink, G: Gate>(
     // What every command leaves: the source, the field and `err`.
     ensures read { ReadsToEnd (S.seen source.new) result.status }
     ensures kept { KeepsSource (S.seen source.old) (S.seen source.new) result.status }
+    ensures misused { command_of (bytes_of words.now) ≡ None → source.new ≡ source.old }
     ensures field { IsField (bytes_of words.now) result.done result.status }
 
     // The line of the status, which is empty for the whole answer.
