@@ -100,7 +100,7 @@ still_ran (Skew n) test done still ran = cc
 -- ---- runs
 
 -- without a section the whole input is what reads as the test
-whole_test : (input : List ℕ) (parts : Split) (test read : LitmusTest) → Some (all_litmus input) ≡ Some parts
+pub whole_test : (input : List ℕ) (parts : Split) (test read : LitmusTest) → Some (all_litmus input) ≡ Some parts
     → Reads parts.litmus (Accepted test)
     → Reads input (Accepted read) → test ≡ read
 whole_test input parts test read e reading reads =
