@@ -23,11 +23,14 @@ pub use command_words::{Command, Count, Job, WordsError, read_words};
 pub use demo_text::demo_text;
 pub use laws::{same_words_and_text_give_the_same, still_answers_are_one};
 pub use perp_loop::{Gate, NoGate, Options};
-pub use program_edge::{Answered, Outcome, Request};
+pub use program_edge::{Answered, Request};
 pub use report_text::Status;
 pub use request::read_request;
 pub use top::perple;
 pub use tso_words::{Done, Field};
+
+/// How a call of [`perple`] ended, and the field that it was given, closed.
+pub type Outcome = program_edge::Outcome<Status>;
 
 #[cfg(test)]
 mod tests;
