@@ -69,7 +69,7 @@ and_shuffle true true false s = refl
 and_shuffle true false false s = refl
 and_shuffle false q r s = refl
 
-all_same : (a b : Cond → Bool) (xs : List Cond) → ((x : Cond) → a x ≡ b x) → list_all a xs ≡ list_all b xs
+pub all_same : (a b : Cond → Bool) (xs : List Cond) → ((x : Cond) → a x ≡ b x) → list_all a xs ≡ list_all b xs
 all_same a b [] h = refl
 all_same a b (x ∷ xs) h = ap (λ z. z && list_all a xs) (h x) ∙ ap (λ z. b x && z) (all_same a b xs h)
 
@@ -90,7 +90,7 @@ all_true a (x ∷ xs) h = ap (λ z. z && list_all a xs) h.0 ∙ all_true a xs h.
 
 -- The first threads' part.
 
-so_same : (logs : List Values) (p : ℕ) (f g : List ℕ) (x : Cond) → take p f ≡ take p g
+pub so_same : (logs : List Values) (p : ℕ) (f g : List ℕ) (x : Cond) → take p f ≡ take p g
     → so_far logs p f x ≡ so_far logs p g x
 so_same logs p f g x e = go (is_settled p x) refl
   where
@@ -411,7 +411,7 @@ last_frame n p r f e lt =
 
 -- What loops keep.
 
-get_any : {X : Type 0} (xs : List X) (i : ℕ) (d e : X) → i < length xs → get_or xs i d ≡ get_or xs i e
+pub get_any : {X : Type 0} (xs : List X) (i : ℕ) (d e : X) → i < length xs → get_or xs i d ≡ get_or xs i e
 get_any [] i d e l = absurd (omega arith)
 get_any (x ∷ xs) zero d e l = refl
 get_any (x ∷ xs) (suc i) d e l = get_any xs i d e (omega arith)

@@ -16,3 +16,4 @@ pub mod Stretches
 pub mod Thresholds
 pub mod Blocks
 pub mod BlockCounts
+pub mod Staying

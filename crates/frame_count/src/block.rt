@@ -1,8 +1,9 @@
 //! Blocks of frames: those with the same iterations of the first threads are neighbours in the order of their numbers.
-ghost use Rattle.std.specs.Prelude.{◌≡◌, ℕ, ◌-◌, ◌+◌, ◌^◌, ◌<◌, ◌≤◌, Bool, All, IfSome, false, length, slice_index, slice_index_or, take, true};
-ghost use Rattle.load_log.specs.Values.{AreWhole};
+ghost use Rattle.std.specs.Prelude.{◌≡◌, ℕ, ◌-◌, ◌+◌, ◌^◌, ◌<◌, ◌≤◌, Bool, All, IfSome, List, Some, false, length, slice_index, slice_index_or, take, true};
+ghost use Rattle.load_log.specs.Values.{AreWhole, Values};
+ghost use Rattle.outcome_conv.specs.Conditions.{Conditions};
 ghost use Rattle.perp_base.specs.declared.limits.TheConstants.{MOST_FRAMES, MOST_ITERATIONS};
-ghost use Rattle.frame_count.specs.Block.{IsBlock, IsPlace, IsTask, SettledBy, block_count};
+ghost use Rattle.frame_count.specs.Block.{AreRemembered, IsBlock, IsPlace, IsTask, SettledBy, block_count};
 ghost use Rattle.frame_count.specs.Count.{IsFrameOf, IsOfLogs};
 ghost use Rattle.frame_count.specs.Counted.{Counts};
 ghost use Rattle.frame_count.specs.Known.{Tells};
@@ -88,12 +89,13 @@ impl<'a> Task<'a> {
     }
 }
 
-/// Where the count has come to: the frame, and a row and blocks that are remembered.
+/// Where the count has come to: the frame, and a row and blocks that are remembered. To make room for blocks takes as
+/// long as some hundred rows, so few frames are counted without.
 #[derive(Drop)]
 pub(crate) struct Place {
     pub frame: Frame,
     pub row: Counted,
-    pub blocks: [Block; MOST_BLOCKS],
+    pub blocks: Option<[Block; MOST_BLOCKS]>,
 }
 
 /// Whether no conjunction is left.
@@ -159,25 +161,37 @@ fn iterations(frame: &Frame) -> [u32; MOST_THREADS]
     iterations
 }
 
+/// Room for blocks, of which none is remembered yet, or no room.
+fn no_blocks(room: bool) -> Option<[Block; MOST_BLOCKS]>
+    ensures { (conds : Conditions) (logs : List Values) (n : ℕ) (blocks : List Block) → result ≡ Some blocks
+        → AreRemembered conds logs n blocks }
+{
+    let block = Block {
+        fixed: 0,
+        iterations: [0; MOST_THREADS],
+        alive: [false; MOST_CONJUNCTIONS],
+        hits: 0,
+    };
+    if room {
+        Some([block; MOST_BLOCKS])
+    } else {
+        None
+    }
+}
+
 impl Place {
-    /// The first frame.
-    pub(crate) fn new(task: &Task, row: Counted) -> Place
+    /// The first frame, with room for blocks or without.
+    pub(crate) fn new(task: &Task, row: Counted, room: bool) -> Place
         requires threads { (1 ≤ length task.now.logs.now.logs) × (length task.now.logs.now.logs ≤ 8) }
         requires some { 1 ≤ task.now.n }
         requires whole { AreWhole task.now.n task.now.logs.now.logs }
         requires row { Counts task.now.conds.now task.now.logs.now.logs row }
         ensures { IsPlace task.now result }
     {
-        let block = Block {
-            fixed: 0,
-            iterations: [0; MOST_THREADS],
-            alive: [false; MOST_CONJUNCTIONS],
-            hits: 0,
-        };
         Place {
             frame: Frame::filled(task.logs.len(), 0),
             row,
-            blocks: [block; MOST_BLOCKS],
+            blocks: no_blocks(room),
         }
     }
 
@@ -210,20 +224,17 @@ impl Place {
         if p == 0 {
             return None;
         }
-        let block = &self.blocks[self.slot(task, p)];
-        if block.fixed == p
-            && all_alike(
-                task.conds,
-                p,
-                &block.alive,
-                alive,
-                &block.iterations,
-                &self.frame,
-            )
-        {
-            Some(block.hits)
-        } else {
-            None
+        match &self.blocks {
+            None => None,
+            Some(blocks) => {
+                let block = &blocks[self.slot(task, p)];
+                let (left, before) = (&block.alive, &block.iterations);
+                if block.fixed == p && all_alike(task.conds, p, left, alive, before, &self.frame) {
+                    Some(block.hits)
+                } else {
+                    None
+                }
+            }
         }
     }
 
@@ -278,7 +289,10 @@ impl Place {
                 alive: *alive,
                 hits,
             };
-            self.blocks[self.slot(task, p)] = block;
+            let slot = self.slot(task, p);
+            if let Some(blocks) = &mut self.blocks {
+                blocks[slot] = block;
+            }
         }
     }
 

@@ -43,6 +43,7 @@ mod so_far;
 mod stretch;
 #[cfg(test)]
 mod tests;
+mod until;
 
 pub use at_frame::holds;
 pub use laws::{counts_are_hits, logs_give_the_values, logs_meet_the_conditions, rows_count_hits};
