@@ -1,6 +1,6 @@
 -- What the words and the source ask of a program, and why it is refused. A request holds the bytes that were read, so
 -- what is said of its answer is said of those bytes, whatever the source and the sinks are. This project's own.
-use Rattle.std.specs.Prelude.{◌≡◌, ◌⊎◌, ℕ, ◌≤◌, List, Option, Some, None, Result, Ok, Err, Vec, length}
+use Rattle.std.specs.Prelude.{◌≡◌, ◌⊎◌, ℕ, ◌≤◌, List, Option, Some, None, Result, Ok, Err, IfErr, Vec, length}
 use Rattle.std.specs.Global.{Global}
 use Rattle.perp_base.specs.Bytes.{GaveAll, IsOver}
 use Rattle.perp_base.specs.Causes.{Rose}
@@ -13,24 +13,22 @@ use Rattle.program_edge.specs.Ending.{Call}
 use Rattle.program_edge.specs.declared.request.Request.{Request}
 use Rattle.program_edge.specs.declared.request.Request.TheVariants.{Misused, NoMemory, Alone, Given}
 
--- a program whose commands are of `C` and whose statuses are of `S`: which commands read an input, of how many bytes at
--- most, and which text of its own a command has that reads none; what is due for a command and its text; how a status
--- of `report_text` is one of them, and the one of an input that is too long
+-- a program whose commands are of `C` and whose statuses are of `S`: the text of a command that comes alone, which is
+-- empty where the command should read one; what is due for a command and its text; how a status of `report_text` is one
+-- of the program's, and the one of an input that is too long
 pub record Program (C S : Type 0) : Type 1 where
-  pub reads : C → Type 0
-  pub limit : ℕ
   pub own : C → List ℕ
   pub due : C → List ℕ → Option S → Type 0
   pub core : Status → S
   pub long : S
 
--- an input comes with each command that reads one, and with no other, and it is within the limit
-abbrev pub IsProper : {C S : Type 0} → Program C S → Request C → Type 0
-IsProper program Misused = Unit {0}
-IsProper program NoMemory = Unit {0}
-IsProper program (Alone command) = program.reads command → ⊥
-IsProper program (Given command (Ok input)) = program.reads command × (length input.items ≤ program.limit)
-IsProper program (Given command (Err why)) = program.reads command
+-- the input of the request, where it has one, has at most so many bytes
+abbrev pub HasInputWithin : {C : Type 0} → ℕ → Request C → Type 0
+HasInputWithin limit Misused = Unit {0}
+HasInputWithin limit NoMemory = Unit {0}
+HasInputWithin limit (Alone command) = Unit {0}
+HasInputWithin limit (Given command (Ok input)) = length input.items ≤ limit
+HasInputWithin limit (Given command (Err why)) = Unit {0}
 
 -- the request is of a command on a text, its own or the input that was read for it, and this holds of the two
 abbrev pub AsksFor : {C S : Type 0} → Program C S → Request C → (C → List ℕ → Type 0) → Type 0
@@ -40,9 +38,17 @@ AsksFor program (Alone command) holds = holds command (program.own command)
 AsksFor program (Given command (Ok input)) holds = holds command input.items
 AsksFor program (Given command (Err why)) holds = ⊥
 
+-- ---- refusals
+
 -- a command on a text is refused by what is due for it, or for want of memory
 abbrev pub IsRefusalOfText : {C S : Type 0} → Program C S → C → List ℕ → S → Type 0
 IsRefusalOfText program command text status = (status ≡ program.core Memory) ⊎ program.due command text (Some status)
+
+-- the status of an input that was not read
+abbrev pub status_of_reading : {C S : Type 0} → Program C S → ReadError → S
+status_of_reading program read.Fault = program.core ReadFault
+status_of_reading program read.TooLong = program.long
+status_of_reading program read.Memory = program.core Memory
 
 -- the status has its cause in the request
 abbrev pub IsRefusal : {C S : Type 0} → Program C S → Request C → S → Type 0
@@ -50,9 +56,18 @@ IsRefusal program Misused status = status ≡ program.core Usage
 IsRefusal program NoMemory status = status ≡ program.core Memory
 IsRefusal program (Alone command) status = IsRefusalOfText program command (program.own command) status
 IsRefusal program (Given command (Ok input)) status = IsRefusalOfText program command input.items status
-IsRefusal program (Given command (Err read.Fault)) status = status ≡ program.core ReadFault
-IsRefusal program (Given command (Err read.TooLong)) status = status ≡ program.long
-IsRefusal program (Given command (Err read.Memory)) status = status ≡ program.core Memory
+IsRefusal program (Given command (Err why)) status = status ≡ status_of_reading program why
+
+-- where nothing is due for the text, only want of memory keeps the answer back
+abbrev pub IsComplete : {C S T : Type 0} → Program C S → Request C → Result T S → Type 0
+IsComplete program request answer = AsksFor program request (λ command text. program.due command text None)
+    → IfErr answer (λ status. status ≡ program.core Memory)
+
+-- what is due for the text is answered, and it yields to want of memory
+abbrev pub AnswersDue : {C S T : Type 0} → Program C S → Request C → Result T S → Type 0
+AnswersDue {S = S} program request answer = (refusal : S)
+    → AsksFor program request (λ command text. program.due command text (Some refusal))
+    → (answer ≡ Err refusal) ⊎ (answer ≡ Err (program.core Memory))
 
 -- ---- where a request comes from
 
@@ -75,8 +90,6 @@ IsRequestOf call (Given command input) =
 -- the program of a call, whose commands that read no input have these texts
 abbrev pub program_of : {C S : Type 0} → Call C S → (C → List ℕ) → Program C S
 program_of call own = record {
-  reads = call.reads;
-  limit = call.limit;
   own = own;
   due = call.due;
   core = call.core;

@@ -1,25 +1,21 @@
-//! The second program: hands the words, standard input, both outputs and a new field to [`tool_core::tool`], whose
-//! contract has all that is promised, and ends with the number of the status.
+//! The second program: hands the words, standard input, both outputs and a new field to [`tool_core::tool`],
+//! whose contract has all that is promised, and ends with the number that [`program_edge::ending`] has for it.
 #![tactic(auto)]
 
 use perp_base::{StdSink, StdSource};
-use program_edge::{NO_MEMORY, words_of};
+use program_edge::{Unmade, ending, words_of};
 use std::process::ExitCode;
-use tool_core::{Field, NoGate, tool};
+use tool_core::{Field, NoGate, Outcome, ToolStatus, tool};
 
-fn main(rt: HostRuntime) -> ExitCode {
-    let words = match words_of(&rt) {
-        Ok(words) => words,
-        Err(status) => return ExitCode::from(status),
-    };
-    let Ok(field) = Field::new(rt.alloc()) else {
-        return ExitCode::from(NO_MEMORY);
-    };
+/// The program's one call; or why it is not made.
+fn call(rt: &HostRuntime) -> Result<Outcome<ToolStatus>, Unmade> {
+    let words = words_of(rt)?;
+    let field = Field::new(rt.alloc())?;
     let mut source = StdSource::new(rt.stdin());
     let mut out = StdSink::new(rt.stdout());
     let mut err = StdSink::new(rt.stderr());
-    let outcome = tool(
-        &rt,
+    Ok(tool(
+        rt,
         rt.alloc(),
         &words,
         &mut source,
@@ -27,6 +23,9 @@ fn main(rt: HostRuntime) -> ExitCode {
         &mut err,
         field,
         &NoGate,
-    );
-    ExitCode::from(outcome.status.number())
+    ))
+}
+
+fn main(rt: HostRuntime) -> ExitCode {
+    ExitCode::from(ending(&call(&rt)))
 }
