@@ -1,5 +1,5 @@
 -- The counts of blocks, and what is remembered of them.
-use Rattle.std.proofs.Common.{◌≡◌, ℕ, suc, ◌+◌, ◌-◌, ◌*◌, ◌/◌, ◌%◌, ◌^◌, ◌<◌, ◌≤◌, ◌⊎◌, inl, inr, Bool, true, false, Some, List, [], ◌∷◌, All, add-one, zero, count_by, get_or, length, set, slice_index, take, replicate, ◌++◌, refl, sym, ap, ◌∙◌, arith, subst, length-set}
+use Rattle.std.proofs.Common.{◌≡◌, ℕ, suc, ◌+◌, ◌-◌, ◌*◌, ◌/◌, ◌^◌, ◌<◌, ◌≤◌, ◌⊎◌, inl, inr, Bool, true, false, Some, List, [], ◌∷◌, add-one, zero, count_by, get_or, length, set, slice_index, take, replicate, ◌++◌, refl, sym, ap, ◌∙◌, arith, subst, length-set}
 use Rattle.std.proofs.lemmas.Bool.{cases_eq, cases_lt}
 use Rattle.std.proofs.lemmas.Grind.{get_or-set_at}
 use Rattle.std.proofs.lemmas.List.{get_or-replicate, get_or-set_other, length-replicate, take-set}
@@ -10,13 +10,12 @@ use Rattle.std.specs.List.{range_with_len}
 use Rattle.x86_subset.specs.Conjunctions.{conjunction_of}
 use Rattle.load_log.specs.Values.{AreWhole, Values}
 use Rattle.outcome_conv.specs.Conditions.{Conditions}
-use Rattle.frame_count.specs.Block.{Alive, AreAlike, AreRemembered, BlockTells, IsBlock, IsPlace, IsRemembered, IsTask, SettledBy, block_count, block_holds}
+use Rattle.frame_count.specs.Block.{Alive, AreAlike, AreRemembered, IsBlock, IsPlace, IsRemembered, IsTask, SettledBy, block_count, block_holds}
 use Rattle.frame_count.specs.Count.{IsFrameOf, frame_holds, number_holds, with_last}
 use Rattle.frame_count.specs.declared.block.Block.{Block}
 use Rattle.frame_count.specs.declared.block.Place.{Place}
 use Rattle.frame_count.specs.declared.block.Task.{Task}
-use Rattle.frame_count.proofs.Blocks.{alike_holds, all_at_first, alive_same, dead, inner_count, last_frame, pow_some, whole}
-use Rattle.frame_count.specs.Counted.{Counts}
+use Rattle.frame_count.proofs.Blocks.{alike_holds, all_at_first, dead, inner_count, last_frame, pow_some, whole}
 use Rattle.frame_count.proofs.Digits.{pow_step}
 use Rattle.frame_count.proofs.Counts.{IsCountedTo, count_all, count_moved, count_outside}
 

@@ -1,22 +1,21 @@
 -- What the first threads settle, and the frames of a block.
-use Rattle.std.proofs.Common.{◌≡◌, ℕ, zero, suc, ◌+◌, ◌-◌, ◌*◌, ◌/◌, ◌%◌, ◌^◌, ◌<◌, ◌≤◌, ◌&&◌, ◌||◌, ◌⊎◌, inl, inr, Bool, true, false, not, cond, List, [], ◌∷◌, ◌++◌, All, append_assoc, count_by, drop, get_or, length, map, nat_lt, set, slice_index, take, refl, sym, ap, ◌∙◌, arith, subst, length-set, lt-ltb}
-use Rattle.std.proofs.lemmas.Bool.{and_parts, cases_Bool, cases_lt, ltb-true}
-use Rattle.std.proofs.lemmas.List.{get_or-set_other, get_or-take, set_split, take-set, take_more_set}
+use Rattle.std.proofs.Common.{◌≡◌, ℕ, zero, suc, ◌+◌, ◌-◌, ◌*◌, ◌/◌, ◌%◌, ◌^◌, ◌<◌, ◌≤◌, ◌&&◌, ◌||◌, ◌⊎◌, inl, inr, Bool, true, false, not, List, [], ◌∷◌, ◌++◌, All, append_assoc, count_by, drop, get_or, length, map, nat_lt, set, slice_index, take, refl, sym, ap, ◌∙◌, arith, length-set, lt-ltb}
+use Rattle.std.proofs.lemmas.Bool.{and_parts, cases_lt, ltb-true}
+use Rattle.std.proofs.lemmas.List.{get_or-set_other, get_or-take, set_split, take_more_set}
 use Rattle.std.proofs.lemmas.Grind.{get_or-set_at}
-use Rattle.std.proofs.lemmas.List.Elements.{All-from_recursion, recursion_from_All}
+use Rattle.std.proofs.lemmas.List.Elements.{recursion_from_All}
 use Rattle.std.proofs.lemmas.Nat.{div-add-mod', div-mul-add, mod-mul-add, mod_below, mul-le}
 use Rattle.std.specs.List.{AllByRecursion as Each, list_all, list_any, range_with_len}
 use native.Mathlib.Nat.{pow-zero, pow-suc, div-one}
 use Rattle.x86_subset.specs.Conjunctions.{conjunction_of, conjunctions_of}
 use Rattle.load_log.specs.Values.{Values, value_at}
 use Rattle.tso_machine.specs.Frame.{frame_of}
-use Rattle.tso_machine.proofs.Frames.{frame_long}
 use Rattle.outcome_conv.specs.declared.cond.Cond.{Cond}
 use Rattle.outcome_conv.specs.Conditions.{Conditions}
 use Rattle.outcome_conv.specs.Conds.{cond_holds, kind_holds}
 use Rattle.outcome_conv.specs.Holds.{iteration_in}
 use Rattle.frame_count.specs.Block.{Alive, AreAlike, IsAlike, SettledBy, block_holds, is_settled, so_far, test_now}
-use Rattle.frame_count.specs.Count.{IsFrameOf, frame_holds, with_last}
+use Rattle.frame_count.specs.Count.{frame_holds, with_last}
 use Rattle.frame_count.proofs.Conjoining.{any_none}
 use Rattle.frame_count.proofs.Counts.{count_moved}
 use Rattle.frame_count.proofs.Reaches.{at_or}

@@ -17,3 +17,4 @@ pub mod Thresholds
 pub mod Blocks
 pub mod BlockCounts
 pub mod Staying
+mod Examples

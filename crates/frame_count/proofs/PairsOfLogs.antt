@@ -1,5 +1,5 @@
 -- Two logs are whole, and what the tests ask of them is what counts ask.
-use Rattle.std.proofs.Common.{◌≡◌, ℕ, ◌*◌, ◌<◌, ◌≤◌, List, [], ◌∷◌, All, get_or, length, sym, ap, ◌∙◌, arith, subst}
+use Rattle.std.proofs.Common.{◌≡◌, ℕ, ◌*◌, ◌<◌, List, [], ◌∷◌, All, get_or, length, sym, ap, ◌∙◌, arith, subst}
 use Rattle.std.proofs.lemmas.List.Elements.{All-cons, All-nil}
 use Rattle.load_log.specs.Values.{AreWhole, Values}
 use Rattle.outcome_conv.specs.declared.cond.Cond.{Cond}

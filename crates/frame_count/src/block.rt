@@ -1,9 +1,9 @@
 //! Blocks of frames: those with the same iterations of the first threads are neighbours in the order of their numbers.
-ghost use Rattle.std.specs.Prelude.{◌≡◌, ℕ, ◌-◌, ◌+◌, ◌^◌, ◌<◌, ◌≤◌, Bool, All, IfSome, List, Some, false, length, slice_index, slice_index_or, take, true};
+ghost use Rattle.std.specs.Prelude.{◌≡◌, ℕ, ◌-◌, ◌+◌, ◌^◌, ◌*◌, ◌<◌, ◌≤◌, Bool, All, IfSome, List, Some, false, length, slice_index, slice_index_or, slice_set, take, true};
 ghost use Rattle.load_log.specs.Values.{AreWhole, Values};
 ghost use Rattle.outcome_conv.specs.Conditions.{Conditions};
 ghost use Rattle.perp_base.specs.declared.limits.TheConstants.{MOST_FRAMES, MOST_ITERATIONS};
-ghost use Rattle.frame_count.specs.Block.{AreRemembered, IsBlock, IsPlace, IsTask, SettledBy, block_count};
+ghost use Rattle.frame_count.specs.Block.{Alive, AreRemembered, StayAlike, IsBlock, IsPlace, IsTask, SettledBy, block_count};
 ghost use Rattle.frame_count.specs.Count.{IsFrameOf, IsOfLogs};
 ghost use Rattle.frame_count.specs.Counted.{Counts};
 ghost use Rattle.frame_count.specs.Known.{Tells};
@@ -11,6 +11,7 @@ ghost use Rattle.frame_count.specs.Known.{Tells};
 use crate::counted::Counted;
 use crate::known::Known;
 use crate::so_far::{all_alike, left};
+use crate::until::all_until;
 use load_log::Logs;
 use outcome_conv::{Cond, Conds};
 use perp_base::{Frame, MOST_CONJUNCTIONS, MOST_THREADS};
@@ -159,6 +160,42 @@ fn iterations(frame: &Frame) -> [u32; MOST_THREADS]
         iterations[t] = frame.at(t);
     }
     iterations
+}
+
+/// How many blocks of thread `p` count as the one of its iteration `i`, from it on, where `room` numbers are left and
+/// `start` of its `step` numbers are passed over. Only whole blocks count alike.
+fn how_many_alike(
+    task: &Task,
+    frame: &Frame,
+    p: usize,
+    i: usize,
+    before: &[bool; MOST_CONJUNCTIONS],
+    now: &[bool; MOST_CONJUNCTIONS],
+    start: u64,
+    step: u64,
+    room: u64,
+) -> u64
+    requires task { IsTask task.now }
+    requires frame { IsFrameOf task.now.logs.now.logs task.now.n frame.now }
+    requires thread { p < task.now.threads }
+    requires iteration { i < task.now.n }
+    requires here { frame.now ≡ slice_set frame.now p i }
+    requires step { 0 < step }
+    requires before { Alive task.now.conds.now task.now.logs.now.logs p frame.now before.now }
+    requires now { Alive task.now.conds.now task.now.logs.now.logs (p + 1) frame.now now.now }
+    ensures some { 1 ≤ result }
+    ensures whole { 2 ≤ result → (start ≡ 0) × (result * step ≤ room) }
+    ensures alike { (m : ℕ) → 1 ≤ m → m < result → i + m < task.now.n → (j : ℕ) (d : Bool)
+        → j < length task.now.conds.now.ends
+        → StayAlike task.now.conds.now task.now.logs.now.logs p frame.now i (i + m) now.now j d }
+{
+    let most = room / step;
+    if start > 0 || most < 2 {
+        return 1;
+    }
+    let n = task.n as usize;
+    let until = all_until(task.conds, task.logs, frame, p, i, n, before, now);
+    ((until - i) as u64).min(most)
 }
 
 /// Room for blocks, of which none is remembered yet, or no room.
@@ -351,9 +388,22 @@ impl Place {
             let some = u64::min(step - start, to - at);
             self.frame.set(p, i as u32);
             let now = left(task.conds, task.logs, &self.frame, p, alive);
-            total += self.count(task, now, p + 1, step, start, start + some);
-            at += some;
-            i += 1;
+            let room = to - at;
+            let times = how_many_alike(
+                task,
+                &self.frame,
+                p,
+                i as usize,
+                &alive,
+                &now,
+                start,
+                step,
+                room,
+            );
+            let hits = self.count(task, now, p + 1, step, start, start + some);
+            total += times * hits;
+            at += times * some;
+            i += times;
             start = 0;
         }
         self.remember(task, &alive, p, size, from, to, total);

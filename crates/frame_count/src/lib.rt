@@ -10,7 +10,8 @@
 //! (`so_far`). A block of which no conjunction is left has no hit, and one of which a conjunction is settled has no other
 //! frames than hits. The hits of other blocks are remembered: one that leaves the same conjunctions, and has the same
 //! iterations of those first threads of which the conditions that are left speak, has as many. Else its blocks of one
-//! thread more are counted, and at the last thread a row.
+//! thread more are counted, and at the last thread a row. Blocks of neighbouring iterations that leave the same
+//! conjunctions, of which none speaks of the thread and one after it, are counted once for all (`until`).
 //!
 //! What the other threads' iterations settle of a row is tested once: each conjunction gets a stretch of the last
 //! thread's iterations outside of which it cannot hold (`reach`, its clause `Leaves` of `specs/Row`). Where the last

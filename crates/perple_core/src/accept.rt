@@ -1,40 +1,23 @@
-//! All that comes before a run: the words, the input, the reading of the text and its checks.
-ghost use Rattle.std.specs.Prelude.{◌≡◌, ◌≤◌, ◌⊎◌, ◌&&◌, ◌^◌, length, nat_lt, None, Some, IsSome, IfOk, IfErr};
-ghost use Rattle.command_words.specs.Words.{command_of};
+//! All that comes between a request and a run: the text is read as a test, and checked.
+ghost use Rattle.std.specs.Prelude.{◌≡◌, ◌≤◌, ◌⊎◌, ◌&&◌, ◌^◌, length, nat_lt, None, Some, IfOk, IfErr};
 ghost use Rattle.demo_text.specs.Demo.{demo_text_of};
 ghost use Rattle.litmus_reader.specs.Answer.{Accepted};
 ghost use Rattle.litmus_reader.specs.Reading.{Reads};
 ghost use Rattle.report_text.specs.Status.{HasKind};
-ghost use Rattle.program_edge.specs.View.{bytes_of};
 ghost use Rattle.perple_core.specs.Texts.{asks_exhaustive, frame_count_of};
-ghost use Rattle.perple_core.specs.Due.{IsDue, IsShort, demo_number, due_for_reading, has_too_many_frames, Takes, Refused, IsInputRefusal};
-ghost use Rattle.perple_core.specs.Top.{Accepts, IsDemo, IsNamedInAscii};
+ghost use Rattle.perple_core.specs.Due.{IsDue, due_for_reading, has_too_many_frames, own_text_of};
+ghost use Rattle.perple_core.specs.Top.{IsNamedInAscii};
 ghost use Rattle.perp_base.specs.declared.limits.TheConstants.{MOST_FRAMES, MOST_ITERATIONS};
 
-use command_words::{Command, Count, Job, WordsError, read_words};
+use command_words::{Command, Count, Job};
 use demo_text::{demo_iterations, demo_text};
 use frame_count::frames;
-use perp_base::{MOST_BYTES, NoMemory, ReadError, Source, read_input};
+use perp_base::{MOST_BYTES, NoMemory};
 use profile_check::Checked;
 use program_edge::{check_test, read_test};
 use report_text::{Over, Status};
 use std::alloc::Global;
 use x86_subset::Test;
-
-#[derive(Drop)]
-pub struct Asked {
-    pub command: Command,
-    pub checked: Checked,
-}
-
-fn demo_number_of(command: &Command) -> Option<u64>
-    ensures { result ≡ demo_number command.now }
-{
-    match command {
-        Command::Demo(k) => Some(*k),
-        Command::Run(_) | Command::Replay(_) | Command::Convert => None,
-    }
-}
 
 /// There are more frames than are counted.
 #[tactic(auto, unfolding(crate::specs::Texts::frame_count_of))]
@@ -67,7 +50,7 @@ fn has_too_many(command: &Command, test: &Test) -> bool
 }
 
 /// The text as a test whose atoms can be counted, or the refusal that is due.
-fn accept(alloc: Global, command: &Command, bytes: &[u8]) -> Result<Checked, Status>
+pub fn accept(alloc: Global, command: &Command, bytes: &[u8]) -> Result<Checked, Status>
     requires { length bytes.now ≤ MOST_BYTES }
     ensures reads { IfOk result (λ checked. Reads bytes.now (Accepted checked.test)) }
     ensures none_due { IfOk result (λ checked. due_for_reading command.now (Accepted checked.test) ≡ None) }
@@ -91,43 +74,13 @@ fn demo_input(alloc: Global, k: u64) -> Result<Vec<u8>, NoMemory>
     demo_text(alloc, k)
 }
 
-fn input_of<S: Source>(alloc: Global, command: &Command, source: &mut S) -> Result<Vec<u8>, Status>
-    ensures ok { IfOk result (λ bytes. Takes command.now (S.seen source.old) (S.seen source.new) bytes.items) }
+/// The text of a command that comes alone: the demo's own, and for a command that should read one the empty text.
+pub fn own_text(alloc: Global, command: &Command) -> Result<Vec<u8>, NoMemory>
+    ensures text { IfOk result (λ bytes. bytes.items ≡ own_text_of command.now) }
     ensures short { IfOk result (λ bytes. length bytes.items ≤ MOST_BYTES) }
-    ensures err { IfErr result (IsInputRefusal command.now (S.seen source.old) (S.seen source.new)) }
-    ensures kind { IfErr result HasKind }
-    ensures demo { IsSome (demo_number command.now) → source.new ≡ source.old }
 {
-    match demo_number_of(command) {
-        Some(k) => match demo_input(alloc, k) {
-            Ok(bytes) => Ok(bytes),
-            Err(_) => Err(Status::Memory),
-        },
-        None => match read_input(alloc, source, MOST_BYTES) {
-            Ok(bytes) => Ok(bytes),
-            Err(ReadError::Fault) => Err(Status::ReadFault),
-            Err(ReadError::TooLong) => Err(Status::Limit(Over::Input)),
-            Err(ReadError::Memory) => Err(Status::Memory),
-        },
+    match command {
+        Command::Demo(k) => demo_input(alloc, *k),
+        Command::Run(_) | Command::Replay(_) | Command::Convert => Ok(Vec::new(alloc)),
     }
-}
-
-/// The command of the words, and the test of its text; or the refusal that is due.
-pub fn ask<S: Source>(alloc: Global, words: &[String], source: &mut S) -> Result<Asked, Status>
-    ensures ok { IfOk result (λ asked. Accepts (bytes_of words.now) (S.seen source.old)
-        (S.seen source.new) asked.command asked.checked.test) }
-    ensures err { IfErr result (Refused (bytes_of words.now) (S.seen source.old) (S.seen source.new)) }
-    ensures kind { IfErr result HasKind }
-    ensures ascii { IfOk result (λ asked. IsNamedInAscii asked.checked.test) }
-    ensures demo { IsDemo (bytes_of words.now) → source.new ≡ source.old }
-    ensures misused { command_of (bytes_of words.now) ≡ None → source.new ≡ source.old }
-{
-    let command = match read_words(alloc, words) {
-        Ok(command) => command,
-        Err(WordsError::Usage) => return Err(Status::Usage),
-        Err(WordsError::Memory) => return Err(Status::Memory),
-    };
-    let bytes = input_of(alloc, &command, source)?;
-    let checked = accept(alloc, &command, &bytes)?;
-    Ok(Asked { command, checked })
 }

@@ -1,5 +1,5 @@
 -- From the answer of one layer to that of the next.
-use Rattle.std.proofs.Common.{◌≡◌, ◌⊎◌, ℕ, ◌≤◌, List, length, Some, None, Result, Ok, Err, String, string_bytes, Global, IfOk, IfErr, inl, inr, sym, subst}
+use Rattle.std.proofs.Common.{◌≡◌, ◌⊎◌, ℕ, ◌≤◌, List, length, Some, None, Result, Ok, Err, String, string_bytes, Global, IfOk, IfErr, inl, inr}
 use Rattle.x86_subset.specs.Test.{LitmusTest}
 use Rattle.tso_words.specs.Seats.{Ended as Closed}
 use Rattle.litmus_reader.specs.Answer.{Accepted}
@@ -7,11 +7,7 @@ use Rattle.litmus_reader.specs.Reading.{Reads}
 use Rattle.report_text.specs.declared.status.Status.TheVariants.{Memory}
 use Rattle.run_text.specs.Sections.{Split}
 use Rattle.program_edge.specs.Field.{IsStill}
-use Rattle.perp_base.specs.View.{View}
-use Rattle.tool_core.specs.Words.{command_of}
-use Rattle.tool_core.specs.Due.{IsDue, IsInputRefusal, Refused, Took, due_for_test, parts_of}
-use Rattle.tool_core.specs.Due.IsInputRefusal.{no_memory as input_memory, no_reading as input_reading, too_long as input_long}
-use Rattle.program_edge.specs.Ending.Refused.{no_memory, no_reading, too_long, no_input}
+use Rattle.tool_core.specs.Due.{IsDue, due_for_test, parts_of}
 use Rattle.tool_core.specs.Top.{Accepts, IsAnswer, IsStillOrRan, IsText, RanFor}
 use Rattle.tool_core.specs.declared.words.Command.{Command}
 use Rattle.tool_core.specs.declared.status.ToolStatus.{ToolStatus}
@@ -94,30 +90,3 @@ pub left : (command : Command) (input : List ℕ) (parts : Split) (test : Litmus
     → Has command input parts test → Works command test parts done text → IfErr text (IsStillOrRan command input done)
 left command input parts test done (Ok t) has works = tt
 left command input parts test done (Err s) has works = still_or_ran command input parts test done s has works.still
-
--- ---- the words and the input
-
-pub refused_from_input : (words : List (List ℕ)) (old new : View) (command : Command) (status : ToolStatus)
-    → command_of words ≡ Some command → IsInputRefusal old new status → Refused words old new status
-refused_from_input words old new command _ is input_memory = no_memory
-refused_from_input words old new command _ is (input_reading rose) = no_reading command is tt rose
-refused_from_input words old new command _ is (input_long over) = too_long command is tt over
-
--- what a command answers to the input that it took
-pub record AnswersInput (command : Command) (input : List ℕ) (done : Closed)
-    (text : Result (String Global) ToolStatus) : Type 0 where
-  pub ok : IfOk text (λ t. IsAnswer command input done (string_bytes t))
-  pub err : IfErr text (λ s. (s ≡ Core Memory) ⊎ IsDue command input (Some s))
-  pub still : IfErr text (IsStillOrRan command input done)
-
-refused_by : (words : List (List ℕ)) (old new : View) (command : Command) (input : List ℕ) (s : ToolStatus)
-    → Took words old new command input
-    → (s ≡ Core Memory) ⊎ IsDue command input (Some s) → Refused words old new s
-refused_by words old new command input s took (inl memory) = subst (Refused words old new) (sym memory) no_memory
-refused_by words old new command input s took (inr due) = no_input s command input took due
-
-pub refused_of : (words : List (List ℕ)) (old new : View) (command : Command) (input : List ℕ) (done : Closed)
-    (text : Result (String Global) ToolStatus)
-    → Took words old new command input → AnswersInput command input done text → IfErr text (Refused words old new)
-refused_of words old new command input done (Ok t) took a = tt
-refused_of words old new command input done (Err s) took a = refused_by words old new command input s took a.err

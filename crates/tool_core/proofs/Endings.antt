@@ -40,7 +40,7 @@ answer_to_told words old new done command input text told answers =
 -- ---- laws
 
 -- for an input that was accepted nothing is due
-none_is_due : (command : Command) (input text : List ℕ) (done : Closed) → IsAnswer command input done text
+pub none_is_due : (command : Command) (input text : List ℕ) (done : Closed) → IsAnswer command input done text
     → IsDue command input None
 none_is_due command input text done a =
     due_for_text command input a.parts None a.accepts.parts_are a.accepts.short
@@ -77,7 +77,7 @@ of_taken command input status is e none (inr due) = subst (IsOfInput command) e 
 
 -- ---- what is left after
 
-still_text : (command : Command) (test : LitmusTest) (parts : Split) (done : Closed) (text : List ℕ)
+pub still_text : (command : Command) (test : LitmusTest) (parts : Split) (done : Closed) (text : List ℕ)
     → IsStillCommand command → IsText command test parts done text → IsStill done
 still_text Judge test parts done text still right = right.0
 still_text Order test parts done text still right = right.0
@@ -87,7 +87,7 @@ still_text Show test parts done text still right = right.0
 still_text Faithful test parts done text still right = right.0
 still_text (Skew n) test parts done text still right = absurd (cc)
 
-still_ran : (command : Command) (test : LitmusTest) (done : Closed) → IsStillCommand command → RanFor command test done
+pub still_ran : (command : Command) (test : LitmusTest) (done : Closed) → IsStillCommand command → RanFor command test done
     → ⊥
 still_ran Judge test done still ran = ran
 still_ran Order test done still ran = ran
@@ -100,7 +100,7 @@ still_ran (Skew n) test done still ran = cc
 -- ---- runs
 
 -- without a section the whole input is what reads as the test
-whole_test : (input : List ℕ) (parts : Split) (test read : LitmusTest) → Some (all_litmus input) ≡ Some parts
+pub whole_test : (input : List ℕ) (parts : Split) (test read : LitmusTest) → Some (all_litmus input) ≡ Some parts
     → Reads parts.litmus (Accepted test)
     → Reads input (Accepted read) → test ≡ read
 whole_test input parts test read e reading reads =
@@ -116,7 +116,7 @@ fits_for m n test read done e same fits =
     subst (λ (t : LitmusTest). SomeRunFits t (options_of n) done) same
     (subst (λ k. SomeRunFits test (options_of k) done) count fits)
 
-fits_by : (command : Command) (n : ℕ) (input text : List ℕ) (read : LitmusTest) (done : Closed)
+pub fits_by : (command : Command) (n : ℕ) (input text : List ℕ) (read : LitmusTest) (done : Closed)
     → iterations_run command ≡ Some n → Reads input (Accepted read)
     → IsAnswer command input done text → SomeRunFits read (options_of n) done
 fits_by Judge n input text read done e reads a = absurd (cc)

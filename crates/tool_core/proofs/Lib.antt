@@ -2,6 +2,7 @@ pub mod Dues
 pub mod Endings
 pub mod Answering
 pub mod Ruling
+pub mod Requests
 pub mod VerdictSaid
 pub mod FaithSaid
 pub mod ShowingSaid

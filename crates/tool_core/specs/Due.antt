@@ -2,15 +2,14 @@
 use Rattle.std.specs.Prelude.{◌≡◌, ◌≤◌, ℕ, ◌*◌, List, [], length, codes, map, nat_lt, if◌then◌else◌, Option, None, Some, Result, Ok, Err, option_map, MatchBool}
 use Rattle.std.specs.List.{range_with_len}
 use Rattle.perp_base.specs.declared.limits.TheConstants.{MOST_BYTES, MOST_INPUT}
-use Rattle.perp_base.specs.Bytes.{GaveAll, IsOver}
-use Rattle.perp_base.specs.Causes.{Rose}
+use Rattle.perp_base.specs.Bytes.{GaveAll}
 use Rattle.x86_subset.specs.Test.{LitmusTest, body_of, columns_of}
 use Rattle.load_log.specs.Values.{Values}
 use Rattle.litmus_reader.specs.Answer.{Answer, Accepted, Refused as Unread, Over as TooLarge}
 use Rattle.litmus_reader.specs.Reading.{Reads}
 use Rattle.profile_check.specs.Profile.{profile_of}
 use Rattle.report_text.specs.declared.status.Over.TheVariants.{Input}
-use Rattle.report_text.specs.declared.status.Status.TheVariants.{Memory, ReadFault, Limit}
+use Rattle.report_text.specs.declared.status.Status.TheVariants.{Limit}
 use Rattle.run_text.specs.Events.{events_of}
 use Rattle.run_text.specs.Logs.{logs_of}
 use Rattle.run_text.specs.Sections.{Split, split_of}
@@ -19,6 +18,7 @@ use Rattle.run_witness.specs.Order.{several_writers}
 use Rattle.perp_base.specs.View.{View}
 use Rattle.program_edge.specs.Ending.{Call, Refused as RefusedCall}
 use Rattle.program_edge.specs.Form.{due_for_atoms, due_for_form}
+use Rattle.program_edge.specs.Request.{Program}
 use Rattle.tool_core.specs.Words.{command_of}
 use Rattle.tool_core.specs.declared.words.Command.{Command}
 use Rattle.tool_core.specs.declared.words.Command.TheVariants.{Judge, Order, Witness, Verdict, Show, Faithful, Skew}
@@ -139,12 +139,15 @@ call_of words old new = record {
   new = new;
 }
 
+-- the program, whose requests are those of its calls: no command comes alone
+abbrev pub tool_program : Program Command ToolStatus
+tool_program = record {
+  own = λ _. [];
+  due = IsDue;
+  core = Core;
+  long = TooLong;
+}
+
 -- the causes of the refusals before a run
 abbrev pub Refused : List (List ℕ) → View → View → ToolStatus → Type 0
 Refused words old new status = RefusedCall (call_of words old new) status
-
--- the causes of the refusals of reading
-pub data IsInputRefusal (old new : View) : ToolStatus → Type 0 where
-  no_memory : IsInputRefusal old new (Core Memory)
-  no_reading : Rose old.faults new.faults → IsInputRefusal old new (Core ReadFault)
-  too_long : IsOver old.bytes new.bytes MOST_INPUT → IsInputRefusal old new TooLong

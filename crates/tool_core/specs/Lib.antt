@@ -6,4 +6,5 @@ pub mod Texts
 pub mod Showing
 pub mod Faithful
 pub mod Top
+pub mod Answering
 pub mod Laws

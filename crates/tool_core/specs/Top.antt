@@ -12,7 +12,7 @@ use Rattle.report_text.specs.declared.status.Status.TheVariants.{Whole, Memory, 
 use Rattle.perp_base.specs.Causes.{Rose}
 use Rattle.run_text.specs.Sections.{Split}
 use Rattle.perp_base.specs.View.{View}
-use Rattle.program_edge.specs.Ending.{Ended as EndedCall, IsStillOr, IsUsage as IsUsageOf}
+use Rattle.program_edge.specs.Ending.{Ended as EndedCall, IsOutOfMemory, IsStillOr, IsUsage as IsUsageOf}
 use Rattle.program_edge.specs.Field.{IsStill, SomeRunFits}
 use Rattle.tool_core.specs.Words.{command_of}
 use Rattle.tool_core.specs.Due.{IsDue, Took, call_of, due_for_test, parts_of}
@@ -187,6 +187,11 @@ pub record IsField (words : List (List ℕ)) (done : Closed) (status : ToolStatu
   pub other_command : ((command : Command) → command_of words ≡ Some command → IsStillCommand command) → IsStill done
   pub other_status : (status ≡ Core Whole → ⊥) → (status ≡ Core WriteFault → ⊥) → (status ≡ Core Memory → ⊥)
       → IsStill done
+
+-- Where memory ran out no step was made on the field, or the command runs the test, the input was accepted, and some run
+-- fits the field.
+abbrev pub LeavesOutOfMemory : List (List ℕ) → View → View → Closed → ToolStatus → Type 0
+LeavesOutOfMemory words old new done status = IsOutOfMemory Core done (RanOut words old new done) status
 
 -- the statuses after which a whole run stands
 abbrev pub HasRun : ToolStatus → Type 0

@@ -1,39 +1,24 @@
-//! The answer to the words and the input, before anything is written: a text or a refusal, and the closed field.
-ghost use Rattle.std.specs.Prelude.{◌≡◌, ◌≤◌, ◌⊎◌, length, IfOk, IfErr, None, Some, string_bytes};
-ghost use Rattle.perp_base.specs.Bytes.{GaveAll};
-ghost use Rattle.program_edge.specs.View.{bytes_of};
-ghost use Rattle.tool_core.specs.Due.{IsDue, IsInputRefusal, Refused};
+//! The answer to a request, before anything is written: a text or a refusal, and the closed field.
+ghost use Rattle.std.specs.Prelude.{◌≡◌, ◌≤◌, ◌⊎◌, length, IfOk, IfErr, Some, string_bytes};
+ghost use Rattle.perp_base.specs.declared.limits.TheConstants.{MOST_INPUT};
+ghost use Rattle.program_edge.specs.Request.{AnswersDue, HasInputWithin, IsComplete, IsRefusal, status_of_reading};
+ghost use Rattle.tool_core.specs.Answering.{AnswerFits, AsksWithin, IsAnswerTo, IsLeftBy, IsUsageOf, MovesInRuns};
+ghost use Rattle.tool_core.specs.Due.{IsDue, tool_program};
 ghost use Rattle.tool_core.specs.Status.{HasToolKind};
-ghost use Rattle.tool_core.specs.Top.{Answers, IsAnswer, IsStillOrRan, Leaves};
-ghost use Rattle.tool_core.specs.Words.{HasIterations, command_of};
+ghost use Rattle.tool_core.specs.Top.{IsAnswer, IsStillOrRan};
+ghost use Rattle.tool_core.specs.Words.{HasIterations};
 
 use crate::parts::parts_in;
 use crate::status::ToolStatus;
-use crate::words::{Command, read_words};
+use crate::words::Command;
 use crate::work::work;
-use command_words::WordsError;
-use perp_base::{MOST_BYTES, MOST_INPUT, ReadError, Source, read_input};
+use perp_base::{MOST_BYTES, ReadError};
 use perp_loop::Gate;
-use program_edge::{Answered, read_test};
+use program_edge::{Answered, Request, read_test};
 use report_text::{Over, Status};
 use std::alloc::Global;
 use std::thread::Threads;
 use tso_words::Field;
-
-/// All that the source has left.
-fn read_all<S: Source>(alloc: Global, source: &mut S) -> Result<Vec<u8>, ToolStatus>
-    ensures ok { IfOk result (λ bytes. GaveAll (S.seen source.old).bytes (S.seen source.new).bytes bytes.items) }
-    ensures short { IfOk result (λ bytes. length bytes.items ≤ MOST_INPUT) }
-    ensures err { IfErr result (IsInputRefusal (S.seen source.old) (S.seen source.new)) }
-    ensures kind { IfErr result HasToolKind }
-{
-    match read_input(alloc, source, MOST_INPUT) {
-        Ok(bytes) => Ok(bytes),
-        Err(ReadError::Fault) => Err(ToolStatus::Core(Status::ReadFault)),
-        Err(ReadError::TooLong) => Err(ToolStatus::TooLong),
-        Err(ReadError::Memory) => Err(ToolStatus::Core(Status::Memory)),
-    }
-}
 
 /// The answer of a command to an input.
 fn answer_input<R: Threads + Sync, G: Gate>(
@@ -65,35 +50,73 @@ fn answer_input<R: Threads + Sync, G: Gate>(
     }
 }
 
-/// Answers the words.
-pub fn answer<R: Threads + Sync, S: Source, G: Gate>(
+fn reading_status(why: ReadError) -> ToolStatus
+    ensures value { result ≡ status_of_reading tool_program why }
+    ensures kind { HasToolKind result }
+{
+    match why {
+        ReadError::Fault => ToolStatus::Core(Status::ReadFault),
+        ReadError::TooLong => ToolStatus::TooLong,
+        ReadError::Memory => ToolStatus::Core(Status::Memory),
+    }
+}
+
+/// The answer to a request.
+fn answer_request<R: Threads + Sync, G: Gate>(
     rt: &R,
     alloc: Global,
-    words: &[String],
-    source: &mut S,
+    request: &Request<Command>,
     field: Field,
     gate: &G,
 ) -> Answered<ToolStatus>
+    requires short { HasInputWithin MOST_INPUT request.now }
+    requires within { AsksWithin request.now }
     ensures identity { result.done.identity ≡ field }
-    ensures ok { IfOk result.text (λ text. Answers (bytes_of words.now) (S.seen source.old)
-        (S.seen source.new) result.done (string_bytes text)) }
-    ensures err { IfErr result.text (Refused (bytes_of words.now) (S.seen source.old) (S.seen source.new)) }
-    ensures done { IfErr result.text (Leaves (bytes_of words.now) (S.seen source.old) (S.seen source.new) result.done) }
+    ensures right { IfOk result.text (λ text. IsAnswerTo request.now result.done (string_bytes text)) }
+    ensures refused { IfErr result.text (IsRefusal tool_program request.now) }
+    ensures left { IfErr result.text (IsLeftBy request.now result.done) }
     ensures kind { IfErr result.text HasToolKind }
-    ensures misused { command_of (bytes_of words.now) ≡ None → source.new ≡ source.old }
 {
-    let command = match read_words(alloc, words) {
-        Ok(command) => command,
-        Err(WordsError::Usage) => {
-            return Answered::still(Err(ToolStatus::Core(Status::Usage)), field);
+    match request {
+        Request::Misused => Answered::still(Err(ToolStatus::Core(Status::Usage)), field),
+        Request::NoMemory => Answered::still(Err(ToolStatus::Core(Status::Memory)), field),
+        Request::Alone(command) => answer_input(rt, alloc, command, &[], field, gate),
+        Request::Given(command, Ok(input)) => {
+            answer_input(rt, alloc, command, input, field, gate)
         }
-        Err(WordsError::Memory) => {
-            return Answered::still(Err(ToolStatus::Core(Status::Memory)), field);
-        }
-    };
-    let input = match read_all(alloc, source) {
-        Ok(input) => input,
-        Err(status) => return Answered::still(Err(status), field),
-    };
-    answer_input(rt, alloc, &command, &input, field, gate)
+        Request::Given(_, Err(why)) => Answered::still(Err(reading_status(*why)), field),
+    }
+}
+
+/// The text that answers a request, or its refusal, and the closed field. Nothing is read or written.
+///
+/// The threads of a command that runs the test make all their steps on `field`, which is new by its type, and call
+/// `gate` before each iteration. Each call returns.
+pub fn answer_text<R: Threads + Sync, G: Gate>(
+    rt: &R,
+    alloc: Global,
+    request: &Request<Command>,
+    field: Field,
+    gate: &G,
+) -> Answered<ToolStatus>
+    requires short { HasInputWithin MOST_INPUT request.now }
+    requires within { AsksWithin request.now }
+
+    // The right answer, and what the threads did on the field.
+    ensures right { IfOk result.text (λ text. IsAnswerTo request.now result.done (string_bytes text)) }
+    ensures fits { AnswerFits request.now result.done result.text }
+    ensures identity { result.done.identity ≡ field }
+
+    // Each refusal with its cause, and each cause with its refusal.
+    ensures refused { IfErr result.text (IsRefusal tool_program request.now) }
+    ensures usage { IsUsageOf request.now result.text }
+    ensures due { AnswersDue tool_program request.now result.text }
+    ensures complete { IsComplete tool_program request.now result.text }
+    ensures kind { IfErr result.text HasToolKind }
+
+    // What is left on the field.
+    ensures left { IfErr result.text (IsLeftBy request.now result.done) }
+    ensures still { MovesInRuns request.now result.done }
+{
+    answer_request(rt, alloc, request, field, gate)
 }

@@ -19,6 +19,7 @@ mod number_text;
 mod ordering;
 mod parts;
 mod reasons;
+mod request;
 mod running;
 mod showing;
 mod skews;
@@ -30,13 +31,19 @@ mod words;
 mod work;
 mod writers;
 
+pub use answer::answer_text;
 pub use laws::{judgements_are_repeated, verdicts_are_repeated, written_runs_are_legal};
 pub use perp_loop::{Gate, NoGate};
-pub use program_edge::Outcome;
+pub use program_edge::{Answered, Request};
 pub use report_text::{Over, Status};
+pub use request::read_request;
 pub use status::ToolStatus;
 pub use top::tool;
 pub use tso_words::{Done, Field};
+pub use words::Command;
+
+/// How a call of [`tool`] ended, and the field that it was given, closed.
+pub type ToolOutcome = program_edge::Outcome<ToolStatus>;
 
 #[cfg(test)]
 mod tests;

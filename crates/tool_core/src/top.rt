@@ -2,10 +2,11 @@
 ghost use Rattle.std.specs.Prelude.{◌≡◌, None};
 ghost use Rattle.program_edge.specs.View.{bytes_of, Wrote};
 ghost use Rattle.tool_core.specs.Status.{tool_line};
-ghost use Rattle.tool_core.specs.Top.{Ended, Completes, IsUsage, RunFits, WritesWhole, WritesPart, ReadsToEnd, KeepsSource, AnswersDue, AnswersTooLong, IsField, SuitsCommand};
+ghost use Rattle.tool_core.specs.Top.{Ended, Completes, IsUsage, RunFits, WritesWhole, WritesPart, ReadsToEnd, KeepsSource, AnswersDue, AnswersTooLong, IsField, LeavesOutOfMemory, SuitsCommand};
 ghost use Rattle.tool_core.specs.Words.{command_of};
 
-use crate::answer::answer;
+use crate::answer::answer_text;
+use crate::request::read_request;
 use crate::status::ToolStatus;
 use perp_base::{Sink, Source};
 use perp_loop::Gate;
@@ -52,11 +53,14 @@ pub fn tool<R: Threads + Sync, S: Source, O: Sink, E: Sink, G: Gate>(
     ensures kept { KeepsSource (S.seen source.old) (S.seen source.new) result.status }
     ensures misused { command_of (bytes_of words.now) ≡ None → source.new ≡ source.old }
     ensures field { IsField (bytes_of words.now) result.done result.status }
+    ensures memory { LeavesOutOfMemory (bytes_of words.now) (S.seen source.old) (S.seen source.new) result.done
+        result.status }
 
     // The line of the status, which is empty for the whole answer.
     ensures line { Wrote (E.seen err.old) (E.seen err.new) (tool_line result.status) }
 {
-    let Answered { text, done } = answer(rt, alloc, words, source, field, gate);
+    let request = read_request(alloc, words, source);
+    let Answered { text, done } = answer_text(rt, alloc, &request, field, gate);
     let status = deliver(&text, out);
     put_line(status.line().bytes(), err);
     Outcome { status, done }

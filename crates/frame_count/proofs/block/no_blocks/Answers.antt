@@ -1,4 +1,4 @@
-use Rattle.std.proofs.Common.{◌≡◌, false, refl, replicate, sym, arith}
+use Rattle.std.proofs.Common.{false, refl, replicate}
 use Rattle.frame_count.specs.declared.block.Block.{Block}
 use Rattle.frame_count.proofs.BlockCounts.{some_none}
 use Rattle.frame_count.proofs.block.no_blocks.Goals as goal

@@ -1,4 +1,4 @@
-use Rattle.std.proofs.Common.{◌≡◌, ◌-◌, ◌^◌, count_by, sym, ap, ◌∙◌}
+use Rattle.std.proofs.Common.{◌-◌, ◌^◌, count_by, ap, ◌∙◌}
 use Rattle.std.specs.List.{range_with_len}
 use Rattle.frame_count.specs.Count.{number_holds}
 use Rattle.frame_count.proofs.BlockCounts.{all_count, first_block}

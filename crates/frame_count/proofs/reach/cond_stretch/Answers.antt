@@ -1,4 +1,4 @@
-use Rattle.std.proofs.Common.{◌≡◌, ◌-◌, ◌≤◌, ◌==◌, ◌<◌, ◌&&◌, ◌||◌, ℕ, not, true, false, length, sym, ap, ◌∙◌, arith}
+use Rattle.std.proofs.Common.{◌≡◌, ◌-◌, ◌≤◌, ◌==◌, ◌<◌, ◌&&◌, ◌||◌, ℕ, not, true, length, sym, ap, ◌∙◌, arith}
 use Rattle.frame_count.specs.Row.{holds_along, holds_with, is_within, left_along, own_along, row_along}
 use Rattle.load_log.specs.Values.{value_at}
 use Rattle.outcome_conv.specs.Conds.{kind_holds}

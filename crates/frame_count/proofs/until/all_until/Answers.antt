@@ -1,4 +1,4 @@
-use Rattle.std.proofs.Common.{◌≡◌, ℕ, ◌+◌, ◌<◌, ◌≤◌, Bool, false, get_or, slice_set, arith}
+use Rattle.std.proofs.Common.{arith}
 use Rattle.frame_count.proofs.Staying.{stays_more, stays_none, stays_one}
 use Rattle.frame_count.proofs.until.all_until.Goals as goal
 use Rattle.frame_count.proofs.until.all_until.Goals.{then-before-c, else-before-c}

@@ -1,6 +1,4 @@
-use Rattle.std.proofs.Common.{◌≡◌, ℕ, false, true, ◌+◌, slice_set, sym, ap, ◌∙◌, arith}
-use Rattle.load_log.specs.Values.{value_at}
-use Rattle.outcome_conv.specs.Conds.{cond_holds}
+use Rattle.std.proofs.Common.{◌≡◌, ℕ, false, true, ◌+◌, sym, ◌∙◌, arith}
 use Rattle.frame_count.specs.Block.{is_settled}
 use Rattle.frame_count.specs.Row.{holds_with}
 use Rattle.frame_count.proofs.Staying.{settled_here}

@@ -1,12 +1,16 @@
 use Rattle.std.proofs.Common.{◌∙◌}
-use Rattle.program_edge.proofs.Endings.{completes_of, due_of, ended_from, too_long_of, usage_of, usage_only}
+use Rattle.program_edge.proofs.Endings.{completes_of, due_of, ended_from, memory_of, too_long_of, usage_of, usage_only}
 use Rattle.tool_core.proofs.Endings.{ends_of, field_of, fits_of, laws, part_of, suits_of, whole_of}
+use Rattle.tool_core.proofs.Requests.{answers_from, leaves_from, refused_from}
 use Rattle.tool_core.proofs.top.tool.Goals as goal
 
 pub returns-clause-ended : goal.returns-clause-ended
 returns-clause-ended g c =
-    ended_from c.answer-text.result.text _ c.answer-text.ensures.ok c.answer-text.ensures.err
-    c.answer-text.ensures.done
+    let is = c.read_request-request.ensures.request in
+    let answer = c.answer_text-text.result.text in
+    ended_from answer _ (answers_from _ _ _ _ is _ answer c.answer_text-text.ensures.right)
+    (refused_from _ _ _ _ is answer c.answer_text-text.ensures.refused)
+    (leaves_from _ _ _ _ is _ answer c.answer_text-text.ensures.left)
     c.deliver-status.ensures.refused c.deliver-status.ensures.text
 
 pub returns-clause-usage : goal.returns-clause-usage
@@ -38,6 +42,9 @@ returns-clause-suits g c = suits_of (returns-clause-ended g c)
 
 pub returns-clause-field : goal.returns-clause-field
 returns-clause-field g c = field_of (returns-clause-ended g c)
+
+pub returns-clause-memory : goal.returns-clause-memory
+returns-clause-memory g c = memory_of (laws _ _ _ _) _ (returns-clause-ended g c)
 
 pub returns-clause-whole : goal.returns-clause-whole
 returns-clause-whole g c = whole_of (returns-clause-ended g c)

@@ -1,4 +1,4 @@
-use Rattle.std.proofs.Common.{◌≡◌, Some, refl, arith}
+use Rattle.std.proofs.Common.{◌≡◌, Some}
 use Rattle.frame_count.proofs.BlockCounts.{place_remembers}
 use Rattle.frame_count.proofs.block.Place.remember.Goals as goal
 
