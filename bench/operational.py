@@ -53,21 +53,22 @@ class Machine:
 
     def steps(self, state):
         """Each next state, and the read that led to it: where it stands, and its value."""
+        dones, buffers, memory, lock = state
         for thread, body in enumerate(self.test.bodies):
-            is_blocked = state.lock is not None and state.lock[0] != thread
-            buffer, place = state.buffers[thread], state.done[thread]
+            is_blocked = lock is not None and lock[0] != thread
+            buffer, place = buffers[thread], dones[thread]
             if buffer and not is_blocked:
                 (loc, value), *rest = buffer
-                yield state._replace(buffers=put(state.buffers, thread, tuple(rest)), memory=put(state.memory, loc, value)), None
+                yield State(dones, put(buffers, thread, tuple(rest)), put(memory, loc, value), lock), None
             if place == len(body):
                 continue
-            action, done = body[place], put(state.done, thread, place + 1)
+            action, done = body[place], put(dones, thread, place + 1)
             if action.kind == "store":
-                yield self.written(state, thread, action)._replace(done=done), None
+                yield State(done, self.written(state, thread, action), memory, lock), None
             elif action.kind == "load" and not is_blocked:
-                yield state._replace(done=done), ((thread, place), self.read(state, thread, action.loc))
+                yield State(done, buffers, memory, lock), ((thread, place), self.read(state, thread, action.loc))
             elif action.kind == "fence" and not buffer:
-                yield state._replace(done=done), None
+                yield State(done, buffers, memory, lock), None
             elif action.kind == "exchange" and not is_blocked:
                 yield from self.exchange(state, thread, action, done)
 
@@ -78,12 +79,13 @@ class Machine:
             place = state.done[thread]
             yield state._replace(lock=(thread, WRITE)), ((thread, place), self.read(state, thread, action.loc))
         elif state.lock[1] == WRITE:
-            yield self.written(state, thread, action)._replace(lock=(thread, UNLOCK)), None
+            yield state._replace(buffers=self.written(state, thread, action), lock=(thread, UNLOCK)), None
         elif not state.buffers[thread]:
             yield state._replace(lock=None, done=done), None
 
     def written(self, state, thread, action):
-        return state._replace(buffers=put(state.buffers, thread, state.buffers[thread] + ((action.loc, action.value),)))
+        """The buffers with a write more."""
+        return put(state.buffers, thread, state.buffers[thread] + ((action.loc, action.value),))
 
     def read(self, state, thread, loc):
         own = [value for x, value in state.buffers[thread] if x == loc]
