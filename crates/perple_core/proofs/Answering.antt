@@ -1,24 +1,20 @@
 -- What the clauses of an answer rest on: the right answer, and what the run of a command leaves.
-use Rattle.std.proofs.Common.{◌≡◌, ◌⊎◌, ℕ, List, None, Some, Ok, Err, Result, Vec, Global, String, string_bytes, IfOk, IfErr, inl, inr, refl, sym, subst}
+use Rattle.std.proofs.Common.{◌≡◌, ◌⊎◌, ℕ, List, None, Ok, Err, Vec, Global, string_bytes, IfOk, IfErr, inl, inr, refl, subst}
 use Rattle.x86_subset.specs.Test.{LitmusTest}
-use Rattle.tso_machine.specs.Event.{Event}
 use Rattle.tso_words.specs.Seats.{Ended as Closed}
-use Rattle.tso_runs.specs.Fits.{Fits}
 use Rattle.litmus_reader.specs.Answer.{Accepted}
 use Rattle.litmus_reader.specs.Reading.{Reads}
 use Rattle.litmus_reader.proofs.ReadingLaws.{same_test}
 use Rattle.command_words.specs.Job.{Asked as Job}
 use Rattle.command_words.specs.declared.job.Command.{Command}
 use Rattle.command_words.specs.declared.job.Command.TheVariants.{Run, Replay, Convert, Demo}
-use Rattle.report_text.specs.declared.status.Status.{Status}
 use Rattle.report_text.specs.declared.status.Status.TheVariants.{Memory}
 use Rattle.program_edge.specs.Ending.{IsStillOr}
 use Rattle.program_edge.specs.Field.{IsStill, SomeRunFits}
 use Rattle.program_edge.specs.Request.{AsksFor}
 use Rattle.program_edge.specs.declared.request.Request.{Request}
 use Rattle.program_edge.specs.declared.request.Request.TheVariants.{Misused, NoMemory, Alone, Given}
-use Rattle.perple_core.specs.Texts.{text_of}
-use Rattle.perple_core.specs.Due.{IsDue, due_for_reading, own_text_of, perple_program}
+use Rattle.perple_core.specs.Due.{IsDue, due_for_reading, perple_program}
 use Rattle.perple_core.specs.Top.{IsText, RanFor}
 use Rattle.perple_core.specs.Answering.{AnswerFits, AnswerReads, AnswerTells, Answers, IsAnswer, IsMade, Leaves, MovesInRuns, TextOrRefusal}
 use Rattle.perple_core.proofs.Accepting.{none_due_has_kinds}

@@ -1,5 +1,5 @@
 -- From the answer to a request to the call that it was made in.
-use Rattle.std.proofs.Common.{◌≡◌, ◌⊎◌, ℕ, List, None, Some, Ok, Err, string_bytes, IfOk, IfErr, inl, inr, refl, sym, subst}
+use Rattle.std.proofs.Common.{◌≡◌, ℕ, List, None, Ok, Err, string_bytes, IfOk, IfErr, inl, inr, refl, sym, subst}
 use Rattle.tso_words.specs.Seats.{Ended as Closed}
 use Rattle.command_words.specs.declared.job.Command.{Command}
 use Rattle.command_words.specs.declared.job.Command.TheVariants.{Run, Replay, Convert, Demo}

@@ -4,11 +4,13 @@ ghost use Rattle.std.specs.Io.{ReadsAtMost};
 ghost use Rattle.std.specs.Io.KnownBytes.{ReadConsumes};
 ghost use Rattle.perp_base.specs.Causes.{HasCause};
 
+mod faiths;
 mod meeting;
 mod rows;
 mod shown;
 
 use super::*;
+use faiths::FAITHS;
 use perp_base::{Calls, Failed, MemSink, MemSource, Source};
 use rows::ROWS;
 use std::alloc::Global;
@@ -213,6 +215,23 @@ fn verdicts_are_given(rt: HostRuntime) -> Result<(), Fail> {
             text.as_bytes(),
             0,
             verdict.as_bytes(),
+            "",
+        )?;
+    }
+    Ok(())
+}
+
+#[test]
+fn faithful_tests_are_told(rt: HostRuntime) -> Result<(), Fail> {
+    let alloc = rt.alloc();
+    for (text, line) in FAITHS {
+        assert_answer(
+            &rt,
+            alloc,
+            "faithful",
+            text.as_bytes(),
+            0,
+            line.as_bytes(),
             "",
         )?;
     }
