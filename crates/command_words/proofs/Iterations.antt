@@ -12,7 +12,7 @@ last_false true false = refl
 last_false false y = refl
 
 -- a number does not begin with a hyphen
-no_number : (word : Text) → is_hyphenated word ≡ true → is_number word ≡ false
+pub no_number : (word : Text) → is_hyphenated word ≡ true → is_number word ≡ false
 no_number [] hyphenated = refl
 no_number (b ∷ bs) hyphenated = rw (eqb-true b 45 hyphenated) (last_false _ _)
 

@@ -5,3 +5,4 @@ mod Parse
 mod JobLemmas
 mod CommandLemmas
 mod Iterations
+mod Lined

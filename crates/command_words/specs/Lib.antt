@@ -1,3 +1,4 @@
 pub mod Job
 pub mod Words
 pub mod Clap
+pub mod Lines

@@ -22,7 +22,7 @@ pub struct Job {
     pub count: Count,
     /// Into how many pieces the exhaustive count cuts the frames, 1 to 65,536.
     pub cut: u32,
-    /// The seed of a replay's schedule. Where there is none the threads take turns, as in each `run`.
+    /// The seed of a replay's schedule. Where there is none a replay's threads take turns. A `run` has none.
     pub order: Option<u64>,
 }
 

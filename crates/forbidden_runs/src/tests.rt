@@ -91,8 +91,12 @@ fn is_forbidden(alloc: Global, text: &[u8]) -> Result<bool, Fail> {
     }
 }
 
-/// What `run 50 --count both` writes of a text.
-fn reported<R: Threads + Sync>(rt: &R, alloc: Global, text: &[u8]) -> Result<Vec<u8>, Fail> {
+/// The number of the status of `run 50 --count both` on a text, and what it writes to both sinks.
+fn ended<R: Threads + Sync>(
+    rt: &R,
+    alloc: Global,
+    text: &[u8],
+) -> Result<(u8, Vec<u8>, Vec<u8>), Fail> {
     let mut words = Vec::new(alloc);
     for word in ["run", "50", "--count", "both"] {
         words.push(String::from_str(alloc, word)?)?;
@@ -111,8 +115,11 @@ fn reported<R: Threads + Sync>(rt: &R, alloc: Global, text: &[u8]) -> Result<Vec
         field,
         &NoGate,
     );
-    drop(outcome);
-    Ok(Vec::from_slice(alloc, out.written())?)
+    Ok((
+        outcome.status.number(),
+        Vec::from_slice(alloc, out.written())?,
+        Vec::from_slice(alloc, err.written())?,
+    ))
 }
 
 #[test]
@@ -126,11 +133,9 @@ fn forbidden_examples_are_reported_empty(rt: HostRuntime) -> Result<(), Fail> {
             "verdict on {text}"
         );
         if let Some(report) = report {
-            assert_eq!(rt;
-                reported(&rt, alloc, bytes)?.as_slice(),
-                report.as_bytes(),
-                "run of {text}"
-            );
+            let (status, out, err) = ended(&rt, alloc, bytes)?;
+            assert_eq!(rt; (status, err.is_empty()), (0, true), "end of {text}");
+            assert_eq!(rt; out.as_slice(), report.as_bytes(), "run of {text}");
         }
     }
     Ok(())

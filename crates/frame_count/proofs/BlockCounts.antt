@@ -1,5 +1,5 @@
 -- The counts of blocks, and what is remembered of them.
-use Rattle.std.proofs.Common.{◌≡◌, ℕ, suc, ◌+◌, ◌-◌, ◌*◌, ◌/◌, ◌%◌, ◌^◌, ◌<◌, ◌≤◌, ◌⊎◌, inl, inr, Bool, true, false, List, [], ◌∷◌, All, add-one, zero, count_by, get_or, length, set, slice_index, take, replicate, ◌++◌, refl, sym, ap, ◌∙◌, arith, subst, length-set}
+use Rattle.std.proofs.Common.{◌≡◌, ℕ, suc, ◌+◌, ◌-◌, ◌*◌, ◌/◌, ◌^◌, ◌<◌, ◌≤◌, ◌⊎◌, inl, inr, Bool, true, false, Some, List, [], ◌∷◌, add-one, zero, count_by, get_or, length, set, slice_index, take, replicate, ◌++◌, refl, sym, ap, ◌∙◌, arith, subst, length-set}
 use Rattle.std.proofs.lemmas.Bool.{cases_eq, cases_lt}
 use Rattle.std.proofs.lemmas.Grind.{get_or-set_at}
 use Rattle.std.proofs.lemmas.List.{get_or-replicate, get_or-set_other, length-replicate, take-set}
@@ -10,13 +10,12 @@ use Rattle.std.specs.List.{range_with_len}
 use Rattle.x86_subset.specs.Conjunctions.{conjunction_of}
 use Rattle.load_log.specs.Values.{AreWhole, Values}
 use Rattle.outcome_conv.specs.Conditions.{Conditions}
-use Rattle.frame_count.specs.Block.{Alive, AreAlike, BlockTells, IsBlock, IsPlace, IsRemembered, IsTask, SettledBy, block_count, block_holds}
+use Rattle.frame_count.specs.Block.{Alive, AreAlike, AreRemembered, IsBlock, IsPlace, IsRemembered, IsTask, SettledBy, block_count, block_holds}
 use Rattle.frame_count.specs.Count.{IsFrameOf, frame_holds, number_holds, with_last}
 use Rattle.frame_count.specs.declared.block.Block.{Block}
 use Rattle.frame_count.specs.declared.block.Place.{Place}
 use Rattle.frame_count.specs.declared.block.Task.{Task}
-use Rattle.frame_count.proofs.Blocks.{alike_holds, all_at_first, alive_same, dead, inner_count, last_frame, pow_some, whole}
-use Rattle.frame_count.specs.Counted.{Counts}
+use Rattle.frame_count.proofs.Blocks.{alike_holds, all_at_first, dead, inner_count, last_frame, pow_some, whole}
 use Rattle.frame_count.proofs.Digits.{pow_step}
 use Rattle.frame_count.proofs.Counts.{IsCountedTo, count_all, count_moved, count_outside}
 
@@ -81,53 +80,52 @@ frame_size task place alive p size t b =
     )
 
 pub place_remembers : (task : Task) (place : Place) (alive : List Bool) (p size from to hits slot : ℕ) (its : List ℕ)
+    (before after : List Block)
     → IsTask task → IsBlock task place alive p size → from ≤ to → to ≤ size → to - from ≡ size
     → hits ≡ block_count task p place.frame from to → length its ≡ 8 → length alive ≡ 8
     → ((q : ℕ) → q < length place.frame → slice_index its q ≡ slice_index place.frame q) → slot < 2048
-    → IsPlace task (record {
-      frame = place.frame;
-      row = place.row;
-      blocks = set place.blocks slot (record { fixed = p; iterations = its; alive = alive; hits = hits });
-    })
-place_remembers task place alive p size from to hits slot its t b order end all count il al same low =
+    → place.blocks ≡ Some before
+    → after ≡ set before slot (record { fixed = p; iterations = its; alive = alive; hits = hits })
+    → AreRemembered task.conds.now task.logs.now.logs task.n after
+place_remembers task place alive p size from to hits slot its before after t b order end all count il al same low there e =
     let s = frame_size task place alive p size t b in
     let new = remembered task.conds.now task.logs.now.logs task.n p size from to hits place.frame its alive
     b.kept.frame s.0 s.1 order end all b.alive_is count il al same in
-    record {
-      frame = b.kept.frame;
-      row = b.kept.row;
-      many = length-set place.blocks slot _ ∙ b.kept.many;
-      blocks = λ k d l. go new k d l (cases_eq k slot);
-    }
-  where
-    go : IsRemembered task.conds.now task.logs.now.logs task.n (record {
-      fixed = p;
-      iterations = its;
-      alive = alive;
-      hits = hits;
+    let kept = b.kept.blocks before there in
+    rw e (record {
+      many = length-set before slot _ ∙ kept.many;
+      each = λ k d l. go kept new k d l (cases_eq k slot);
     })
+  where
+    go : AreRemembered task.conds.now task.logs.now.logs task.n before
+        → IsRemembered task.conds.now task.logs.now.logs task.n (record {
+          fixed = p;
+          iterations = its;
+          alive = alive;
+          hits = hits;
+        })
         → (k : ℕ) (d : Block) → k < 2048 → (k ≡ slot) ⊎ (k ≡ slot → ⊥)
-        → IsRemembered task.conds.now task.logs.now.logs task.n (get_or (set place.blocks slot (record {
+        → IsRemembered task.conds.now task.logs.now.logs task.n (get_or (set before slot (record {
           fixed = p;
           iterations = its;
           alive = alive;
           hits = hits;
         })) k d)
-    go new k d l (inl e) =
-        let many = b.kept.many in
-        rw (get_or-set_at place.blocks slot k (record {
+    go kept new k d l (inl q) =
+        let many = kept.many in
+        rw (get_or-set_at before slot k (record {
           fixed = p;
           iterations = its;
           alive = alive;
           hits = hits;
-        }) d e (omega arith)) new
-    go new k d l (inr ne) =
-        rw (get_or-set_other place.blocks slot k (record {
+        }) d q (omega arith)) new
+    go kept new k d l (inr ne) =
+        rw (get_or-set_other before slot k (record {
           fixed = p;
           iterations = its;
           alive = alive;
           hits = hits;
-        }) d ne) (b.kept.blocks k d l)
+        }) d ne) (kept.each k d l)
 
 -- The last row.
 pub last_count : (c : Conditions) (logs : List Values) (n p from to : ℕ) (f : List ℕ) → p + 1 ≡ length f → to ≤ n
@@ -139,28 +137,35 @@ last_count c logs n p from to f e le =
 
 -- At the start.
 
-pub place_new : (task : Task) (place : Place) (b : Block) → 1 ≤ task.n → task.n ≤ 100000
-    → 1 ≤ length task.logs.now.logs → AreWhole task.n task.logs.now.logs
-    → Counts task.conds.now task.logs.now.logs place.row
-    → place.frame ≡ replicate (length task.logs.now.logs) 0 → place.blocks ≡ replicate 2048 b → b.fixed ≡ 0
-    → length b.iterations ≡ 8 → length b.alive ≡ 8 → IsPlace task place
-place_new task place b some few thread whole row frame blocks none its alive = record {
-  frame = record {
-    whole = whole;
-    some = thread;
-    one_each = ap length frame ∙ length-replicate (length task.logs.now.logs) 0;
-    below = λ k d l.
-        let t = length task.logs.now.logs in
-        let long = ap length frame ∙ length-replicate t 0 in
-        let e : get_or place.frame k d ≡ 0 = ap (λ z. get_or z k d) frame ∙ get_or-replicate t k 0 d (omega arith) in
-        omega arith;
-    few = few;
-  };
-  row = row;
-  many = ap length blocks ∙ length-replicate 2048 b;
-  blocks = λ k d l.
-      let e : get_or place.blocks k d ≡ b = ap (λ z. get_or z k d) blocks ∙ get_or-replicate 2048 k b d l in
-      rw e (record { iterations = its; alive = alive; tells = λ f a one. absurd (omega arith) });
+-- blocks of which none is fixed tell nothing
+pub none_remembered : (c : Conditions) (logs : List Values) (n : ℕ) (blocks : List Block) (b : Block)
+    → blocks ≡ replicate 2048 b → b.fixed ≡ 0 → length b.iterations ≡ 8 → length b.alive ≡ 8
+    → AreRemembered c logs n blocks
+none_remembered c logs n blocks b e none its alive = record {
+  many = ap length e ∙ length-replicate 2048 b;
+  each = λ k d l.
+      let h : get_or blocks k d ≡ b = ap (λ z. get_or z k d) e ∙ get_or-replicate 2048 k b d l in
+      rw h (record { iterations = its; alive = alive; tells = λ f a one. absurd (omega arith) });
+}
+
+pub some_none : (c : Conditions) (logs : List Values) (n : ℕ) (blocks room : List Block) (b : Block)
+    → room ≡ replicate 2048 b → Some room ≡ Some blocks → b.fixed ≡ 0 → length b.iterations ≡ 8 → length b.alive ≡ 8
+    → AreRemembered c logs n blocks
+some_none c logs n blocks room b e some none its alive =
+    let same : blocks ≡ room = cc in
+    none_remembered c logs n blocks b (same ∙ e) none its alive
+
+pub first_frame : (logs : List Values) (n : ℕ) (frame : List ℕ) → 1 ≤ n → 1 ≤ length logs → AreWhole n logs
+    → frame ≡ replicate (length logs) 0 → IsFrameOf logs n frame
+first_frame logs n frame some thread whole e = record {
+  whole = whole;
+  some = thread;
+  one_each = ap length e ∙ length-replicate (length logs) 0;
+  below = λ k d l.
+      let t = length logs in
+      let long = ap length e ∙ length-replicate t 0 in
+      let h : get_or frame k d ≡ 0 = ap (λ z. get_or z k d) e ∙ get_or-replicate t k 0 d (omega arith) in
+      omega arith;
 }
 
 -- The blocks of one thread more.
@@ -193,7 +198,6 @@ set_frame logs n p i f h lt = record {
   some = h.some;
   one_each = length-set f p i ∙ h.one_each;
   below = λ k d l. go k d (let long = length-set f p i in omega arith) (cases_eq k p);
-  few = h.few;
 }
   where
     go : (k d : ℕ) → k < length f → (k ≡ p) ⊎ (k ≡ p → ⊥) → get_or (set f p i) k d < n
@@ -233,7 +237,6 @@ inner_block task place new now p size i t k e lt more other long alive = record 
         (let P : List ℕ → Type 0 = λ f. IsFrameOf task.logs.now.logs task.n f in
         subst P (sym e) (set_frame task.logs.now.logs task.n p i place.frame k.frame lt));
     row = k.row;
-    many = k.many;
     blocks = k.blocks;
   };
   more = omega arith;

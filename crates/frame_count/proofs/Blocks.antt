@@ -1,22 +1,21 @@
 -- What the first threads settle, and the frames of a block.
-use Rattle.std.proofs.Common.{◌≡◌, ℕ, zero, suc, ◌+◌, ◌-◌, ◌*◌, ◌/◌, ◌%◌, ◌^◌, ◌<◌, ◌≤◌, ◌&&◌, ◌||◌, ◌⊎◌, inl, inr, Bool, true, false, not, cond, List, [], ◌∷◌, ◌++◌, All, append_assoc, count_by, drop, get_or, length, map, nat_lt, set, slice_index, take, refl, sym, ap, ◌∙◌, arith, subst, length-set, lt-ltb}
-use Rattle.std.proofs.lemmas.Bool.{and_parts, cases_Bool, cases_lt, ltb-true}
-use Rattle.std.proofs.lemmas.List.{get_or-set_other, get_or-take, set_split, take-set, take_more_set}
+use Rattle.std.proofs.Common.{◌≡◌, ℕ, zero, suc, ◌+◌, ◌-◌, ◌*◌, ◌/◌, ◌%◌, ◌^◌, ◌<◌, ◌≤◌, ◌&&◌, ◌||◌, ◌⊎◌, inl, inr, Bool, true, false, not, List, [], ◌∷◌, ◌++◌, All, append_assoc, count_by, drop, get_or, length, map, nat_lt, set, slice_index, take, refl, sym, ap, ◌∙◌, arith, length-set, lt-ltb}
+use Rattle.std.proofs.lemmas.Bool.{and_parts, cases_lt, ltb-true}
+use Rattle.std.proofs.lemmas.List.{get_or-set_other, get_or-take, set_split, take_more_set}
 use Rattle.std.proofs.lemmas.Grind.{get_or-set_at}
-use Rattle.std.proofs.lemmas.List.Elements.{All-from_recursion, recursion_from_All}
+use Rattle.std.proofs.lemmas.List.Elements.{recursion_from_All}
 use Rattle.std.proofs.lemmas.Nat.{div-add-mod', div-mul-add, mod-mul-add, mod_below, mul-le}
 use Rattle.std.specs.List.{AllByRecursion as Each, list_all, list_any, range_with_len}
 use native.Mathlib.Nat.{pow-zero, pow-suc, div-one}
 use Rattle.x86_subset.specs.Conjunctions.{conjunction_of, conjunctions_of}
 use Rattle.load_log.specs.Values.{Values, value_at}
 use Rattle.tso_machine.specs.Frame.{frame_of}
-use Rattle.tso_machine.proofs.Frames.{frame_long}
 use Rattle.outcome_conv.specs.declared.cond.Cond.{Cond}
 use Rattle.outcome_conv.specs.Conditions.{Conditions}
 use Rattle.outcome_conv.specs.Conds.{cond_holds, kind_holds}
 use Rattle.outcome_conv.specs.Holds.{iteration_in}
 use Rattle.frame_count.specs.Block.{Alive, AreAlike, IsAlike, SettledBy, block_holds, is_settled, so_far, test_now}
-use Rattle.frame_count.specs.Count.{IsFrameOf, frame_holds, with_last}
+use Rattle.frame_count.specs.Count.{frame_holds, with_last}
 use Rattle.frame_count.proofs.Conjoining.{any_none}
 use Rattle.frame_count.proofs.Counts.{count_moved}
 use Rattle.frame_count.proofs.Reaches.{at_or}
@@ -69,7 +68,7 @@ and_shuffle true true false s = refl
 and_shuffle true false false s = refl
 and_shuffle false q r s = refl
 
-all_same : (a b : Cond → Bool) (xs : List Cond) → ((x : Cond) → a x ≡ b x) → list_all a xs ≡ list_all b xs
+pub all_same : (a b : Cond → Bool) (xs : List Cond) → ((x : Cond) → a x ≡ b x) → list_all a xs ≡ list_all b xs
 all_same a b [] h = refl
 all_same a b (x ∷ xs) h = ap (λ z. z && list_all a xs) (h x) ∙ ap (λ z. b x && z) (all_same a b xs h)
 
@@ -90,7 +89,7 @@ all_true a (x ∷ xs) h = ap (λ z. z && list_all a xs) h.0 ∙ all_true a xs h.
 
 -- The first threads' part.
 
-so_same : (logs : List Values) (p : ℕ) (f g : List ℕ) (x : Cond) → take p f ≡ take p g
+pub so_same : (logs : List Values) (p : ℕ) (f g : List ℕ) (x : Cond) → take p f ≡ take p g
     → so_far logs p f x ≡ so_far logs p g x
 so_same logs p f g x e = go (is_settled p x) refl
   where
@@ -411,7 +410,7 @@ last_frame n p r f e lt =
 
 -- What loops keep.
 
-get_any : {X : Type 0} (xs : List X) (i : ℕ) (d e : X) → i < length xs → get_or xs i d ≡ get_or xs i e
+pub get_any : {X : Type 0} (xs : List X) (i : ℕ) (d e : X) → i < length xs → get_or xs i d ≡ get_or xs i e
 get_any [] i d e l = absurd (omega arith)
 get_any (x ∷ xs) zero d e l = refl
 get_any (x ∷ xs) (suc i) d e l = get_any xs i d e (omega arith)

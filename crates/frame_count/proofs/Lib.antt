@@ -16,3 +16,5 @@ pub mod Stretches
 pub mod Thresholds
 pub mod Blocks
 pub mod BlockCounts
+pub mod Staying
+mod Examples

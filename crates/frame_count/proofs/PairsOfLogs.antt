@@ -1,5 +1,5 @@
 -- Two logs are whole, and what the tests ask of them is what counts ask.
-use Rattle.std.proofs.Common.{◌≡◌, ℕ, ◌*◌, ◌<◌, ◌≤◌, List, [], ◌∷◌, All, get_or, length, sym, ap, ◌∙◌, arith, subst}
+use Rattle.std.proofs.Common.{◌≡◌, ℕ, ◌*◌, ◌<◌, List, [], ◌∷◌, All, get_or, length, sym, ap, ◌∙◌, arith, subst}
 use Rattle.std.proofs.lemmas.List.Elements.{All-cons, All-nil}
 use Rattle.load_log.specs.Values.{AreWhole, Values}
 use Rattle.outcome_conv.specs.declared.cond.Cond.{Cond}
@@ -22,8 +22,8 @@ names_two n columns logs conds t h = λ i d l.
     record { reader = omega arith; writer = omega arith; column = omega arith }
 
 pub frame_two : (n columns first : ℕ) (logs : List Values) (frame : List ℕ) → HasTwo n columns logs → first < n
-    → n ≤ 1000 → frame ≡ first ∷ 0 ∷ [] → IsFrameOf logs n frame
-frame_two n columns first logs frame t l few e =
+    → frame ≡ first ∷ 0 ∷ [] → IsFrameOf logs n frame
+frame_two n columns first logs frame t l e =
     let two = t.0 in
     let long : length frame ≡ 2 = ap length e in
     let P : List ℕ → Type 0 = All (λ i. i < n) in
@@ -34,5 +34,4 @@ frame_two n columns first logs frame t l few e =
       below =
           subst P (sym e) (All-cons (λ i. i < n) first (0
           ∷ []) l (All-cons (λ i. i < n) 0 [] (omega arith) (All-nil (λ i. i < n))));
-      few = omega arith;
     }

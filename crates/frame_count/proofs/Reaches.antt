@@ -1,5 +1,5 @@
 -- What the other threads' iterations settle of a condition along a row.
-use Rattle.std.proofs.Common.{◌≡◌, ◌≢◌, ℕ, zero, suc, ◌+◌, ◌-◌, ◌*◌, ◌<◌, ◌≤◌, ◌==◌, ◌&&◌, ◌||◌, ◌⊎◌, inl, inr, Bool, true, false, not, List, [], ◌∷◌, get_or, length, max, min, nat_le, nat_lt, slice_index, take, refl, sym, ap, ◌∙◌, arith, le-leb, le-ltb, lt-ltb, subst}
+use Rattle.std.proofs.Common.{◌≡◌, ◌≢◌, slice_set, ℕ, zero, suc, ◌+◌, ◌-◌, ◌*◌, ◌<◌, ◌≤◌, ◌==◌, ◌&&◌, ◌||◌, ◌⊎◌, inl, inr, Bool, true, false, not, List, [], ◌∷◌, get_or, length, max, min, nat_le, nat_lt, slice_index, take, refl, sym, ap, ◌∙◌, arith, le-leb, le-ltb, lt-ltb, subst}
 use Rattle.std.proofs.lemmas.Bool.{and_parts, both_ways, cases_Bool, cases_lt, eqb-true, leb-true, lt-leb, ltb-true}
 use Rattle.std.proofs.lemmas.List.{get_or-set_other, get_or-set_same, get_or-take, length-take}
 use Rattle.std.proofs.lemmas.Nat.{mul-le}
@@ -23,14 +23,19 @@ at_or [] t = refl
 at_or (x ∷ xs) zero = refl
 at_or (x ∷ xs) (suc t) = at_or xs t
 
+pub stays_at : (frame : List ℕ) (p t m : ℕ) → t ≢ p → iteration_in (slice_set frame p m) t ≡ slice_index frame t
+stays_at frame p t m other = at_or (slice_set frame p m) t ∙ get_or-set_other frame p t m 0 other
+
+pub moves_at : (frame : List ℕ) (p t m : ℕ) → t ≡ p → p < length frame → iteration_in (slice_set frame p m) t ≡ m
+moves_at frame p t m e lt =
+    at_or (slice_set frame p m) t ∙ ap (slice_index (slice_set frame p m)) e ∙ get_or-set_same frame p m 0 lt
+
 pub stays : (frame : List ℕ) (t m : ℕ) → t ≢ length frame - 1 → iteration_in (with_last frame m) t ≡ slice_index frame t
-stays frame t m other = at_or (with_last frame m) t ∙ get_or-set_other frame (length frame - 1) t m 0 other
+stays frame t m other = stays_at frame (length frame - 1) t m other
 
 pub moves : (frame : List ℕ) (t m : ℕ) → t ≡ length frame - 1 → t < length frame
     → iteration_in (with_last frame m) t ≡ m
-moves frame t m e lt =
-    at_or (with_last frame m) t ∙ ap (slice_index (with_last frame m)) e
-    ∙ get_or-set_same frame (length frame - 1) m 0 (omega arith)
+moves frame t m e lt = moves_at frame (length frame - 1) t m e (omega arith)
 
 -- whole logs
 
@@ -78,6 +83,24 @@ settles h true r false e f = e ∙ f refl
 settles h false r false e f = e
 settles h true r true e f = refl
 settles h false r true e f = e
+
+-- what a stretch tells of a test where nothing is left of it, where it is left of the row, and of the own
+pub told_settled : (h w s t : Bool) → h ≡ w → s ≡ false → t ≡ false → h ≡ (w && (not (s || t) || h))
+told_settled h w s t e f g = grind arith
+
+pub told_row : (h w s t : Bool) → h ≡ (w && (not s || h)) → t ≡ false → h ≡ (w && (not (s || t) || h))
+told_row h w s t e f = grind arith
+
+pub told_own : (h w s t : Bool) → w ≡ true → t ≡ true → h ≡ (w && (not (s || t) || h))
+told_own h w s t e f = grind arith
+
+-- the same along a row, by the condition's reader x and writer y
+pub row_settled : (h w s t k l : Bool) → h ≡ w → s ≡ false → t ≡ false → h ≡ (w && ((not s || k) && (not t || l)))
+row_settled h w s t k l e f g = grind arith
+
+pub row_row : (h w s t x y l : Bool) → x ≡ true → y ≡ false → h ≡ (w && (not s || h)) → t ≡ false
+    → h ≡ (w && ((not s || (not (x && not y) || h)) && (not t || l)))
+row_row h w s t x y l e f g i = grind arith
 
 -- one more condition of a conjunction: all of them hold where the stretch is and those left hold, r of the row's and o
 -- of its own

@@ -1,8 +1,8 @@
 -- Blocks of frames: those with the same iterations of the first p threads are neighbours in the order of their numbers
 -- (this project's own).
-use Rattle.std.specs.Prelude.{◌≡◌, ℕ, ◌+◌, ◌-◌, ◌^◌, ◌<◌, ◌≤◌, ◌&&◌, ◌||◌, Bool, true, not, List, ◌++◌, All, count_by, length, nat_lt, slice_index, slice_index_or, take}
+use Rattle.std.specs.Prelude.{◌≡◌, ℕ, ◌+◌, ◌-◌, ◌^◌, ◌<◌, ◌≤◌, ◌&&◌, ◌||◌, Bool, true, not, Some, List, ◌++◌, All, count_by, length, nat_lt, slice_index, slice_index_or, slice_set, take}
 use Rattle.std.specs.List.{list_all, range_with_len}
-use Rattle.perp_base.specs.declared.limits.TheConstants.{MOST_FRAMES}
+use Rattle.perp_base.specs.declared.limits.TheConstants.{MOST_FRAMES, MOST_ITERATIONS}
 use Rattle.x86_subset.specs.Conjunctions.{conjunction_of}
 use Rattle.load_log.specs.Values.{Values, value_at}
 use Rattle.tso_machine.specs.Frame.{frame_of}
@@ -50,6 +50,17 @@ AreAlike c p left alive before frame =
     (j : ℕ) (d : Bool) → j < length c.ends → (slice_index_or left j d ≡ slice_index_or alive j d)
     × (slice_index_or alive j d ≡ true → All (IsAlike p before frame) (conjunction_of c.ends c.conds j))
 
+-- a condition that speaks of thread p speaks of none after it
+abbrev pub EndsAt : ℕ → Cond → Type 0
+EndsAt p x = (x.reader ≡ p → x.writer ≤ p) × (x.writer ≡ p → x.reader ≤ p)
+
+-- with thread p in iteration m conjunction j is left as told and, if it is, alike to that with thread p in iteration i
+abbrev pub StayAlike : Conditions → List Values → ℕ → List ℕ → ℕ → ℕ → List Bool → ℕ → Bool → Type 0
+StayAlike c logs p frame i m now j d =
+    (slice_index_or now j d ≡ list_all (so_far logs (p + 1) (slice_set frame p m)) (conjunction_of c.ends c.conds j))
+    × (slice_index_or now j d ≡ true
+    → All (IsAlike (p + 1) (slice_set frame p i) (slice_set frame p m)) (conjunction_of c.ends c.conds j))
+
 -- so many threads settle each conjunction
 abbrev pub SettledBy : Conditions → List ℕ → Type 0
 SettledBy c by =
@@ -73,9 +84,15 @@ pub record IsRemembered (c : Conditions) (logs : List Values) (n : ℕ) (b : Blo
   pub alive : length b.alive ≡ 8
   pub tells : BlockTells c logs n b
 
+-- and each of so many
+pub record AreRemembered (c : Conditions) (logs : List Values) (n : ℕ) (blocks : List Block) : Type 0 where
+  pub many : length blocks ≡ 2048
+  pub each : (k : ℕ) (d : Block) → k < 2048 → IsRemembered c logs n (slice_index_or blocks k d)
+
 -- what is counted
 pub record IsTask (task : Task) : Type 0 where
   pub some : 1 ≤ task.n
+  pub iterations : task.n ≤ MOST_ITERATIONS
   pub threads : task.threads ≡ length task.logs.now.logs
   pub most : task.threads ≤ 8
   pub few : task.n ^ task.threads ≤ MOST_FRAMES
@@ -88,9 +105,8 @@ pub record IsTask (task : Task) : Type 0 where
 pub record IsPlace (task : Task) (place : Place) : Type 0 where
   pub frame : IsFrameOf task.logs.now.logs task.n place.frame
   pub row : Counts task.conds.now task.logs.now.logs place.row
-  pub many : length place.blocks ≡ 2048
-  pub blocks : (k : ℕ) (d : Block) → k < 2048
-      → IsRemembered task.conds.now task.logs.now.logs task.n (slice_index_or place.blocks k d)
+  pub blocks : (blocks : List Block) → place.blocks ≡ Some blocks
+      → AreRemembered task.conds.now task.logs.now.logs task.n blocks
 
 -- the hits of the block from one of its numbers on
 abbrev pub block_count : Task → ℕ → List ℕ → ℕ → ℕ → ℕ

@@ -15,7 +15,6 @@ pub record IsFrameOf (logs : List Values) (n : ℕ) (frame : List ℕ) : Type 0 
   pub some : 1 ≤ length logs
   pub one_each : length frame ≡ length logs
   pub below : All (λ i. i < n) frame
-  pub few : n ≤ MOST_ITERATIONS
 
 -- a condition that names threads of the logs and a column of its reader's
 pub record IsOfLogs (logs : List Values) (c : Cond) : Type 0 where

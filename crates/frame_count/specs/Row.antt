@@ -1,7 +1,7 @@
 -- A row of frames: all iterations of the last thread, with those of the other threads fixed. What is known of a
 -- condition along a row, and what is left to test (the counter is after PerpLE's: Melissaris, Markakis, Shaw and
 -- Martonosi, MICRO 2020; stretches and lanes are this project's own).
-use Rattle.std.specs.Prelude.{◌≡◌, ℕ, ◌+◌, ◌-◌, ◌*◌, ◌<◌, ◌%◌, ◌==◌, ◌&&◌, ◌||◌, Bool, List, length, map, nat_le, nat_lt, not, true}
+use Rattle.std.specs.Prelude.{◌≡◌, ℕ, ◌+◌, ◌-◌, ◌*◌, ◌<◌, ◌%◌, ◌==◌, ◌&&◌, ◌||◌, Bool, List, length, map, nat_le, nat_lt, not, slice_set, true}
 use Rattle.std.specs.List.{list_all, range_with_len}
 use Rattle.std.specs.Simd.Lanes.{mask_l}
 use Rattle.load_log.specs.Values.{Values, value_at}
@@ -38,7 +38,16 @@ is_within s m = nat_le s.from m && nat_lt m s.to
 unfoldable pub mask_along : (ℕ → Bool) → ℕ → ℕ → ℕ
 mask_along p at n = mask_l (map p (range_with_len at n))
 
--- whether a condition holds at a frame of the row
+-- a test of iterations that a stretch tells of: below n it passes only in the stretch and, if the stretch leaves nothing
+-- to test, everywhere there
+abbrev pub IsToldBy : Stretch → ℕ → (ℕ → Bool) → Type 0
+IsToldBy s n test = (m : ℕ) → m < n → test m ≡ (is_within s m && (not (s.row || s.own) || test m))
+
+-- whether a condition holds at a frame with thread t in iteration m
+abbrev pub holds_with : List Values → List ℕ → ℕ → ℕ → Cond → Bool
+holds_with logs frame t m c = cond_holds (value_at logs) (slice_set frame t m) c
+
+-- the same at a frame of the row
 abbrev pub holds_along : List Values → List ℕ → ℕ → Cond → Bool
 holds_along logs frame m c = cond_holds (value_at logs) (with_last frame m) c
 

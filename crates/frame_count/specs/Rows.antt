@@ -1,5 +1,5 @@
 -- What the count of a row needs: its stretches leave it to the conditions of each conjunction (this project's own).
-use Rattle.std.specs.Prelude.{ℕ, ◌<◌, ◌≤◌, All, Bool, List, length, slice_index_or}
+use Rattle.std.specs.Prelude.{ℕ, ◌^◌, ◌<◌, ◌≤◌, All, Bool, List, length, slice_index_or}
 use Rattle.x86_subset.specs.Conjunctions.{conjunction_of}
 use Rattle.load_log.specs.Values.{Values}
 use Rattle.outcome_conv.specs.Conditions.{Conditions}
@@ -17,6 +17,7 @@ LeaveEach c logs n stretches frame =
 -- a row of a frame of the logs, up to and without this iteration of the last thread
 pub record IsRow (r : Row) (to : ℕ) : Type 0 where
   pub frame : (n : ℕ) × (to ≤ n) × IsFrameOf r.logs.now.logs n r.frame.now
+  pub few : to ≤ 2 ^ 32
   pub names : All (IsOfLogs r.logs.now.logs) r.conds.now.conds
   pub each : length r.conds.now.ends ≤ length r.stretches.now
   pub leaves : LeaveEach r.conds.now r.logs.now.logs to r.stretches.now r.frame.now

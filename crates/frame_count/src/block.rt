@@ -1,8 +1,9 @@
 //! Blocks of frames: those with the same iterations of the first threads are neighbours in the order of their numbers.
-ghost use Rattle.std.specs.Prelude.{◌≡◌, ℕ, ◌-◌, ◌+◌, ◌^◌, ◌<◌, ◌≤◌, Bool, All, IfSome, false, length, slice_index, slice_index_or, take, true};
-ghost use Rattle.load_log.specs.Values.{AreWhole};
+ghost use Rattle.std.specs.Prelude.{◌≡◌, ℕ, ◌-◌, ◌+◌, ◌^◌, ◌*◌, ◌<◌, ◌≤◌, Bool, All, IfSome, List, Some, false, length, slice_index, slice_index_or, slice_set, take, true};
+ghost use Rattle.load_log.specs.Values.{AreWhole, Values};
+ghost use Rattle.outcome_conv.specs.Conditions.{Conditions};
 ghost use Rattle.perp_base.specs.declared.limits.TheConstants.{MOST_FRAMES, MOST_ITERATIONS};
-ghost use Rattle.frame_count.specs.Block.{IsBlock, IsPlace, IsTask, SettledBy, block_count};
+ghost use Rattle.frame_count.specs.Block.{Alive, AreRemembered, StayAlike, IsBlock, IsPlace, IsTask, SettledBy, block_count};
 ghost use Rattle.frame_count.specs.Count.{IsFrameOf, IsOfLogs};
 ghost use Rattle.frame_count.specs.Counted.{Counts};
 ghost use Rattle.frame_count.specs.Known.{Tells};
@@ -10,6 +11,7 @@ ghost use Rattle.frame_count.specs.Known.{Tells};
 use crate::counted::Counted;
 use crate::known::Known;
 use crate::so_far::{all_alike, left};
+use crate::until::all_until;
 use load_log::Logs;
 use outcome_conv::{Cond, Conds};
 use perp_base::{Frame, MOST_CONJUNCTIONS, MOST_THREADS};
@@ -66,7 +68,7 @@ fn settled_by(conds: &Conds) -> [usize; MOST_CONJUNCTIONS]
 impl<'a> Task<'a> {
     /// The count over so many iterations.
     pub(crate) fn new(conds: &'a Conds, logs: &'a Logs, known: &'a Known, n: u32) -> Task<'a>
-        requires some { 1 ≤ n }
+        requires iterations { (1 ≤ n) × (n ≤ MOST_ITERATIONS) }
         requires threads { length logs.now.logs ≤ 8 }
         requires few { n ^ length logs.now.logs ≤ MOST_FRAMES }
         requires names { All (IsOfLogs logs.now.logs) conds.now.conds }
@@ -88,12 +90,13 @@ impl<'a> Task<'a> {
     }
 }
 
-/// Where the count has come to: the frame, and a row and blocks that are remembered.
+/// Where the count has come to: the frame, and a row and blocks that are remembered. To make room for blocks takes as
+/// long as some hundred rows, so few frames are counted without.
 #[derive(Drop)]
 pub(crate) struct Place {
     pub frame: Frame,
     pub row: Counted,
-    pub blocks: [Block; MOST_BLOCKS],
+    pub blocks: Option<[Block; MOST_BLOCKS]>,
 }
 
 /// Whether no conjunction is left.
@@ -159,25 +162,73 @@ fn iterations(frame: &Frame) -> [u32; MOST_THREADS]
     iterations
 }
 
+/// How many blocks of thread `p` count as the one of its iteration `i`, from it on, where `room` numbers are left and
+/// `start` of its `step` numbers are passed over. Only whole blocks count alike.
+fn how_many_alike(
+    task: &Task,
+    frame: &Frame,
+    p: usize,
+    i: usize,
+    before: &[bool; MOST_CONJUNCTIONS],
+    now: &[bool; MOST_CONJUNCTIONS],
+    start: u64,
+    step: u64,
+    room: u64,
+) -> u64
+    requires task { IsTask task.now }
+    requires frame { IsFrameOf task.now.logs.now.logs task.now.n frame.now }
+    requires thread { p < task.now.threads }
+    requires iteration { i < task.now.n }
+    requires here { frame.now ≡ slice_set frame.now p i }
+    requires step { 0 < step }
+    requires before { Alive task.now.conds.now task.now.logs.now.logs p frame.now before.now }
+    requires now { Alive task.now.conds.now task.now.logs.now.logs (p + 1) frame.now now.now }
+    ensures some { 1 ≤ result }
+    ensures whole { 2 ≤ result → (start ≡ 0) × (result * step ≤ room) }
+    ensures alike { (m : ℕ) → 1 ≤ m → m < result → i + m < task.now.n → (j : ℕ) (d : Bool)
+        → j < length task.now.conds.now.ends
+        → StayAlike task.now.conds.now task.now.logs.now.logs p frame.now i (i + m) now.now j d }
+{
+    let most = room / step;
+    if start > 0 || most < 2 {
+        return 1;
+    }
+    let n = task.n as usize;
+    let until = all_until(task.conds, task.logs, frame, p, i, n, before, now);
+    ((until - i) as u64).min(most)
+}
+
+/// Room for blocks, of which none is remembered yet, or no room.
+fn no_blocks(room: bool) -> Option<[Block; MOST_BLOCKS]>
+    ensures { (conds : Conditions) (logs : List Values) (n : ℕ) (blocks : List Block) → result ≡ Some blocks
+        → AreRemembered conds logs n blocks }
+{
+    let block = Block {
+        fixed: 0,
+        iterations: [0; MOST_THREADS],
+        alive: [false; MOST_CONJUNCTIONS],
+        hits: 0,
+    };
+    if room {
+        Some([block; MOST_BLOCKS])
+    } else {
+        None
+    }
+}
+
 impl Place {
-    /// The first frame.
-    pub(crate) fn new(task: &Task, row: Counted) -> Place
+    /// The first frame, with room for blocks or without.
+    pub(crate) fn new(task: &Task, row: Counted, room: bool) -> Place
         requires threads { (1 ≤ length task.now.logs.now.logs) × (length task.now.logs.now.logs ≤ 8) }
-        requires iterations { (1 ≤ task.now.n) × (task.now.n ≤ MOST_ITERATIONS) }
+        requires some { 1 ≤ task.now.n }
         requires whole { AreWhole task.now.n task.now.logs.now.logs }
         requires row { Counts task.now.conds.now task.now.logs.now.logs row }
         ensures { IsPlace task.now result }
     {
-        let block = Block {
-            fixed: 0,
-            iterations: [0; MOST_THREADS],
-            alive: [false; MOST_CONJUNCTIONS],
-            hits: 0,
-        };
         Place {
             frame: Frame::filled(task.logs.len(), 0),
             row,
-            blocks: [block; MOST_BLOCKS],
+            blocks: no_blocks(room),
         }
     }
 
@@ -210,20 +261,17 @@ impl Place {
         if p == 0 {
             return None;
         }
-        let block = &self.blocks[self.slot(task, p)];
-        if block.fixed == p
-            && all_alike(
-                task.conds,
-                p,
-                &block.alive,
-                alive,
-                &block.iterations,
-                &self.frame,
-            )
-        {
-            Some(block.hits)
-        } else {
-            None
+        match &self.blocks {
+            None => None,
+            Some(blocks) => {
+                let block = &blocks[self.slot(task, p)];
+                let (left, before) = (&block.alive, &block.iterations);
+                if block.fixed == p && all_alike(task.conds, p, left, alive, before, &self.frame) {
+                    Some(block.hits)
+                } else {
+                    None
+                }
+            }
         }
     }
 
@@ -278,7 +326,10 @@ impl Place {
                 alive: *alive,
                 hits,
             };
-            self.blocks[self.slot(task, p)] = block;
+            let slot = self.slot(task, p);
+            if let Some(blocks) = &mut self.blocks {
+                blocks[slot] = block;
+            }
         }
     }
 
@@ -337,9 +388,22 @@ impl Place {
             let some = u64::min(step - start, to - at);
             self.frame.set(p, i as u32);
             let now = left(task.conds, task.logs, &self.frame, p, alive);
-            total += self.count(task, now, p + 1, step, start, start + some);
-            at += some;
-            i += 1;
+            let room = to - at;
+            let times = how_many_alike(
+                task,
+                &self.frame,
+                p,
+                i as usize,
+                &alive,
+                &now,
+                start,
+                step,
+                room,
+            );
+            let hits = self.count(task, now, p + 1, step, start, start + some);
+            total += times * hits;
+            at += times * some;
+            i += times;
             start = 0;
         }
         self.remember(task, &alive, p, size, from, to, total);

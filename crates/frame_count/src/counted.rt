@@ -7,6 +7,7 @@ ghost use Rattle.frame_count.specs.Count.{IsFrameOf, IsOfLogs, frame_holds, with
 ghost use Rattle.frame_count.specs.Counted.{Counts};
 ghost use Rattle.frame_count.specs.Known.{Tells};
 ghost use Rattle.frame_count.specs.declared.stretch.Stretch.{Stretch};
+ghost use Rattle.perp_base.specs.declared.limits.TheConstants.{MOST_ITERATIONS};
 
 use crate::known::Known;
 use crate::reach::{hull, reaches};
@@ -65,6 +66,7 @@ impl Counted {
         to: usize,
     ) -> u64
         requires frame { (n : ℕ) × (from ≤ to) × (to ≤ n) × IsFrameOf logs.now.logs n frame.now }
+        requires few { to ≤ MOST_ITERATIONS }
         requires names { All (IsOfLogs logs.now.logs) conds.now.conds }
         requires known { Tells conds.now logs.now.logs known.now }
         requires counts { Counts conds.now logs.now.logs self.old }

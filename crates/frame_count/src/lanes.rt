@@ -5,7 +5,6 @@ ghost use Rattle.std.specs.Simd.Lanes.{Each1, mask_l, zip2};
 ghost use Rattle.outcome_conv.specs.Conditions.{IsKind};
 ghost use Rattle.outcome_conv.specs.Conds.{kind_holds};
 ghost use Rattle.frame_count.specs.Row.{bound_of, kind_test, mask_along, residue_fits};
-ghost use Rattle.perp_base.specs.declared.limits.TheConstants.{MOST_ITERATIONS};
 
 use outcome_conv::CondKind;
 use std::simd::prelude::*;
@@ -111,7 +110,7 @@ fn residue_bits(value: u64x8, k: u64, a: u64, gap: u64, step: u64) -> u64
 /// The mask of sixty-four iterations, from those of eight.
 #[inline(always)]
 fn sixty_four<F: Fn(usize) -> u64>(at: usize, eight: F) -> u64
-    requires at { at + 64 ≤ MOST_ITERATIONS }
+    requires at { at + 64 ≤ 2 ^ 32 }
     requires calls { (i : ℕ) → at ≤ i → i + 8 ≤ at + 64 → F.pre eight i }
     ensures { (p : ℕ → Bool) → ((i r : ℕ) → F.post eight i r → r ≡ mask_along p i 8) → result ≡ mask_along p at 64 }
 {
@@ -128,7 +127,7 @@ fn sixty_four<F: Fn(usize) -> u64>(at: usize, eight: F) -> u64
 
 /// Which of sixty-four values are below the bound.
 fn less_word(values: &[u64], bound: u64, at: usize) -> u64
-    requires at { at + 64 ≤ MOST_ITERATIONS }
+    requires at { at + 64 ≤ 2 ^ 32 }
     requires room { at + 64 ≤ length values.now }
     ensures { result ≡ mask_along (λ m. nat_lt (slice_index values.now m) bound) at 64 }
 {
@@ -143,7 +142,7 @@ fn less_word(values: &[u64], bound: u64, at: usize) -> u64
 
 /// Which of sixty-four values are at least the bound.
 fn at_least_word(values: &[u64], bound: u64, at: usize) -> u64
-    requires at { at + 64 ≤ MOST_ITERATIONS }
+    requires at { at + 64 ≤ 2 ^ 32 }
     requires room { at + 64 ≤ length values.now }
     ensures { result ≡ mask_along (λ m. nat_le bound (slice_index values.now m)) at 64 }
 {
@@ -158,7 +157,7 @@ fn at_least_word(values: &[u64], bound: u64, at: usize) -> u64
 
 /// Which of sixty-four values are the bound.
 fn equal_word(values: &[u64], bound: u64, at: usize) -> u64
-    requires at { at + 64 ≤ MOST_ITERATIONS }
+    requires at { at + 64 ≤ 2 ^ 32 }
     requires room { at + 64 ≤ length values.now }
     ensures { result ≡ mask_along (λ m. nat_eq (slice_index values.now m) bound) at 64 }
 {
@@ -174,7 +173,7 @@ fn equal_word(values: &[u64], bound: u64, at: usize) -> u64
 /// Which of sixty-four values are below `k * m + a`, each by its own iteration `m`.
 fn own_less_word(values: &[u64], k: u64, a: u64, at: usize) -> u64
     requires line { (1 ≤ k) × (k ≤ 128) × (1 ≤ a) × (a ≤ 128) }
-    requires at { at + 64 ≤ MOST_ITERATIONS }
+    requires at { at + 64 ≤ 2 ^ 32 }
     requires room { at + 64 ≤ length values.now }
     ensures { result ≡ mask_along (λ m. nat_lt (slice_index values.now m) (k * m + a)) at 64 }
 {
@@ -190,7 +189,7 @@ fn own_less_word(values: &[u64], k: u64, a: u64, at: usize) -> u64
 /// Which of sixty-four values are at least `k * m + a`, each by its own iteration `m`.
 fn own_at_least_word(values: &[u64], k: u64, a: u64, at: usize) -> u64
     requires line { (1 ≤ k) × (k ≤ 128) × (1 ≤ a) × (a ≤ 128) }
-    requires at { at + 64 ≤ MOST_ITERATIONS }
+    requires at { at + 64 ≤ 2 ^ 32 }
     requires room { at + 64 ≤ length values.now }
     ensures { result ≡ mask_along (λ m. nat_le (k * m + a) (slice_index values.now m)) at 64 }
 {
@@ -206,7 +205,7 @@ fn own_at_least_word(values: &[u64], k: u64, a: u64, at: usize) -> u64
 /// Which of sixty-four values are `k * m + a`, each by its own iteration `m`.
 fn own_equal_word(values: &[u64], k: u64, a: u64, at: usize) -> u64
     requires line { (1 ≤ k) × (k ≤ 128) × (1 ≤ a) × (a ≤ 128) }
-    requires at { at + 64 ≤ MOST_ITERATIONS }
+    requires at { at + 64 ≤ 2 ^ 32 }
     requires room { at + 64 ≤ length values.now }
     ensures { result ≡ mask_along (λ m. nat_eq (slice_index values.now m) (k * m + a)) at 64 }
 {
@@ -222,7 +221,7 @@ fn own_equal_word(values: &[u64], k: u64, a: u64, at: usize) -> u64
 /// Which of sixty-four values have the residue `a` for `k`, a power of two.
 fn masked_word(values: &[u64], k: u64, a: u64, at: usize) -> u64
     requires power { (j : ℕ) × (j < 64) × (k ≡ 2 ^ j) }
-    requires at { at + 64 ≤ MOST_ITERATIONS }
+    requires at { at + 64 ≤ 2 ^ 32 }
     requires room { at + 64 ≤ length values.now }
     ensures { result ≡ mask_along (λ m. slice_index values.now m % k == a % k) at 64 }
 {
@@ -238,7 +237,7 @@ fn masked_word(values: &[u64], k: u64, a: u64, at: usize) -> u64
 /// Which of sixty-four values have the residue `a` for `k`.
 fn residue_word(values: &[u64], k: u64, a: u64, at: usize) -> u64
     requires some { (1 ≤ k) × (k ≤ 128) }
-    requires at { at + 64 ≤ MOST_ITERATIONS }
+    requires at { at + 64 ≤ 2 ^ 32 }
     requires room { at + 64 ≤ length values.now }
     ensures { result ≡ mask_along (λ m. slice_index values.now m % k == a % k) at 64 }
 {
@@ -264,7 +263,7 @@ fn residue_word(values: &[u64], k: u64, a: u64, at: usize) -> u64
 #[inline(always)]
 fn with_residue(word: u64, values: &[u64], k: u64, a: u64, at: usize) -> u64
     requires some { (1 ≤ k) × (k ≤ 128) }
-    requires at { at + 64 ≤ MOST_ITERATIONS }
+    requires at { at + 64 ≤ 2 ^ 32 }
     requires room { at + 64 ≤ length values.now }
     ensures { (p : ℕ → Bool) → word ≡ mask_along p at 64
         → result ≡ mask_along (λ m. p m && (slice_index values.now m % k == a % k)) at 64 }
@@ -279,7 +278,7 @@ fn with_residue(word: u64, values: &[u64], k: u64, a: u64, at: usize) -> u64
 /// Which of sixty-four values have the residue that a condition of this kind asks.
 pub(crate) fn fitting_word(kind: CondKind, values: &[u64], at: usize) -> u64
     requires kind { IsKind kind }
-    requires at { at + 64 ≤ MOST_ITERATIONS }
+    requires at { at + 64 ≤ 2 ^ 32 }
     requires room { at + 64 ≤ length values.now }
     ensures { result ≡ mask_along (λ m. residue_fits kind (slice_index values.now m)) at 64 }
 {
@@ -294,7 +293,7 @@ pub(crate) fn fitting_word(kind: CondKind, values: &[u64], at: usize) -> u64
 #[inline(always)]
 pub(crate) fn values_word(kind: CondKind, values: &[u64], bound: u64, at: usize) -> u64
     requires kind { IsKind kind }
-    requires at { at + 64 ≤ MOST_ITERATIONS }
+    requires at { at + 64 ≤ 2 ^ 32 }
     requires room { at + 64 ≤ length values.now }
     ensures { result ≡ mask_along (λ m. kind_test kind (slice_index values.now m) bound) at 64 }
 {
@@ -310,7 +309,7 @@ pub(crate) fn values_word(kind: CondKind, values: &[u64], bound: u64, at: usize)
 /// Which of sixty-four values pass, where the thread that logged them is the writer too.
 pub(crate) fn own_word(kind: CondKind, values: &[u64], at: usize) -> u64
     requires kind { IsKind kind }
-    requires at { at + 64 ≤ MOST_ITERATIONS }
+    requires at { at + 64 ≤ 2 ^ 32 }
     requires room { at + 64 ≤ length values.now }
     ensures { result ≡ mask_along (λ m. kind_holds kind (slice_index values.now m) m) at 64 }
 {
@@ -340,7 +339,6 @@ fn line(kind: CondKind) -> (u64, u64)
 /// The bound of a writer's iteration.
 pub(crate) fn bound(kind: CondKind, m: u32) -> u64
     requires kind { IsKind kind }
-    requires iteration { m < MOST_ITERATIONS }
     ensures { result ≡ bound_of kind m }
 {
     let (k, a) = line(kind);

@@ -10,7 +10,8 @@
 //! (`so_far`). A block of which no conjunction is left has no hit, and one of which a conjunction is settled has no other
 //! frames than hits. The hits of other blocks are remembered: one that leaves the same conjunctions, and has the same
 //! iterations of those first threads of which the conditions that are left speak, has as many. Else its blocks of one
-//! thread more are counted, and at the last thread a row.
+//! thread more are counted, and at the last thread a row. Blocks of neighbouring iterations that leave the same
+//! conjunctions, of which none speaks of the thread and one after it, are counted once for all (`until`).
 //!
 //! What the other threads' iterations settle of a row is tested once: each conjunction gets a stretch of the last
 //! thread's iterations outside of which it cannot hold (`reach`, its clause `Leaves` of `specs/Row`). Where the last
@@ -19,9 +20,9 @@
 //! logged, each word of its column is known before (`known`, its clause `Tells` of `specs/Known`), and lanes test those
 //! alone that the bound of a row cuts.
 //!
-//! A row with the bounds and stretches of the row that is remembered, of which no test is left that changes from row to
-//! row, has as many hits; so it is counted in one step (`Counted::next`). What the last thread reads of its own stores
-//! is tested in one row for many.
+//! The tests that are left of a row may be the same in every row. Where they are, a row with the bounds and stretches
+//! of the remembered row has as many hits as that one: it is counted in one step (`Counted::next`). So what the last
+//! thread reads of its own stores is tested in one row for many.
 //!
 //! What that means for the logs of a run is said by the laws of `specs/RunLogs`: the count is the number of hits of the
 //! run (`counts_are_hits`), that of a row the number of its hits (`rows_count_hits`), and what `outcome_conv` says of
@@ -43,6 +44,7 @@ mod so_far;
 mod stretch;
 #[cfg(test)]
 mod tests;
+mod until;
 
 pub use at_frame::holds;
 pub use laws::{counts_are_hits, logs_give_the_values, logs_meet_the_conditions, rows_count_hits};

@@ -18,6 +18,9 @@ use perp_base::MOST_CONJUNCTIONS;
 use rayon::prelude::*;
 use std::thread::Threads;
 
+/// Of so many frames blocks are remembered.
+const MANY_FRAMES: u64 = 65_536;
+
 /// The row of the first frame, counted: each piece begins with it, since other rows may count alike.
 fn first_row(conds: &Conds, logs: &Logs, known: &Known, n: u32) -> Counted
     requires iterations { (1 ≤ n) × (n ≤ MOST_ITERATIONS) }
@@ -55,7 +58,8 @@ fn piece(
     ensures { result ≡ count_by (number_holds conds.now logs.now.logs n) (range_with_len from (to - from)) }
 {
     let task = Task::new(conds, logs, known, n);
-    let mut place = Place::new(&task, *first);
+    let room = logs.len() > 2 && to - from >= MANY_FRAMES;
+    let mut place = Place::new(&task, *first, room);
     let size = power(n, logs.len());
     place.count(&task, [true; MOST_CONJUNCTIONS], 0, size, from, to)
 }

@@ -2,7 +2,7 @@
 //! row.
 ghost use Rattle.std.specs.Prelude.{◌≡◌, ℕ, ◌-◌, ◌<◌, ◌≤◌, ◌==◌, ◌&&◌, ◌||◌, All, false, length, not, slice_index_or, true};
 ghost use Rattle.frame_count.specs.Count.{IsFrameOf, IsGood, IsOfLogs};
-ghost use Rattle.frame_count.specs.Row.{Leaves, holds_along, is_within, left_along};
+ghost use Rattle.frame_count.specs.Row.{IsToldBy, Leaves, holds_along, holds_with, is_within, left_along};
 ghost use Rattle.frame_count.specs.Rows.{LeaveEach};
 ghost use Rattle.frame_count.specs.declared.stretch.Stretch.{Stretch};
 
@@ -13,30 +13,32 @@ use load_log::Logs;
 use outcome_conv::{Cond, Conds};
 use perp_base::{Frame, MOST_CONJUNCTIONS};
 
-/// Where a condition holds whose reader is not the last thread.
-fn reader_stays(cond: &Cond, logs: &Logs, frame: &Frame, n: usize) -> Stretch
+/// Where a condition holds whose reader is not thread `t`, by the iterations of thread `t`.
+fn reader_stays(cond: &Cond, logs: &Logs, frame: &Frame, t: usize, n: usize) -> Stretch
     requires frame { (all : ℕ) × (n ≤ all) × IsFrameOf logs.now.logs all frame.now × IsGood logs.now.logs cond.now }
-    requires reader { (cond.now.reader == length frame.now - 1) ≡ false }
-    ensures within { (m : ℕ) → m < n → holds_along logs.now.logs frame.now m cond.now ≡ is_within result m }
+    requires thread { t < length frame.now }
+    requires reader { (cond.now.reader == t) ≡ false }
+    ensures within { (m : ℕ) → m < n → holds_with logs.now.logs frame.now t m cond.now ≡ is_within result m }
     ensures settled { (result.row ≡ false) × (result.own ≡ false) }
 {
     let reader = cond.reader as usize;
     let writer = cond.writer as usize;
     let value = logged(logs, reader, cond.column as usize, frame.at(reader));
-    if writer == frame.len() - 1 {
+    if writer == t {
         Stretch::of_writer(cond.kind, value, n)
     } else {
         Stretch::all_or_none(cond.holds(value, frame.at(writer)), n)
     }
 }
 
-/// Where a condition can hold whose reader is the last thread, and whose writer is not.
-fn writer_stays(cond: &Cond, logs: &Logs, frame: &Frame, n: usize) -> Stretch
+/// Where a condition can hold whose reader is thread `t`, and whose writer is not.
+fn writer_stays(cond: &Cond, logs: &Logs, frame: &Frame, t: usize, n: usize) -> Stretch
     requires frame { (all : ℕ) × (n ≤ all) × IsFrameOf logs.now.logs all frame.now × IsGood logs.now.logs cond.now }
-    requires reader { (cond.now.reader == length frame.now - 1) ≡ true }
-    requires writer { (cond.now.writer == length frame.now - 1) ≡ false }
-    ensures tells { (m : ℕ) → m < n → holds_along logs.now.logs frame.now m cond.now
-        ≡ (is_within result m && (not result.row || holds_along logs.now.logs frame.now m cond.now)) }
+    requires thread { t < length frame.now }
+    requires reader { (cond.now.reader == t) ≡ true }
+    requires writer { (cond.now.writer == t) ≡ false }
+    ensures tells { (m : ℕ) → m < n → holds_with logs.now.logs frame.now t m cond.now
+        ≡ (is_within result m && (not result.row || holds_with logs.now.logs frame.now t m cond.now)) }
     ensures own { result.own ≡ false }
 {
     let column = cond.column as usize;
@@ -49,17 +51,18 @@ fn writer_stays(cond: &Cond, logs: &Logs, frame: &Frame, n: usize) -> Stretch
     }
 }
 
-/// Where a condition can hold in the first `n` iterations of the last thread.
-fn cond_stretch(cond: &Cond, logs: &Logs, frame: &Frame, n: usize) -> Stretch
+/// Where a condition can hold in the first `n` iterations of thread `t`.
+pub(crate) fn cond_stretch(cond: &Cond, logs: &Logs, frame: &Frame, t: usize, n: usize) -> Stretch
     requires frame { (all : ℕ) × (n ≤ all) × IsFrameOf logs.now.logs all frame.now × IsGood logs.now.logs cond.now }
-    ensures tells { (m : ℕ) → m < n → holds_along logs.now.logs frame.now m cond.now
+    requires thread { t < length frame.now }
+    ensures tells { IsToldBy result n (λ m. holds_with logs.now.logs frame.now t m cond.now) }
+    ensures row { t ≡ length frame.now - 1 → (m : ℕ) → m < n → holds_along logs.now.logs frame.now m cond.now
         ≡ (is_within result m && left_along logs.now.logs frame.now result m cond.now) }
 {
-    let last = frame.len() - 1;
-    if cond.reader as usize != last {
-        reader_stays(cond, logs, frame, n)
-    } else if cond.writer as usize != last {
-        writer_stays(cond, logs, frame, n)
+    if cond.reader as usize != t {
+        reader_stays(cond, logs, frame, t, n)
+    } else if cond.writer as usize != t {
+        writer_stays(cond, logs, frame, t, n)
     } else {
         Stretch::left(n, false)
     }
@@ -73,7 +76,7 @@ fn reach(conds: &[Cond], logs: &Logs, frame: &Frame, n: usize) -> Stretch
 {
     let mut stretch = Stretch::all_or_none(true, n);
     for cond in conds {
-        stretch = stretch.meet(cond_stretch(cond, logs, frame, n));
+        stretch = stretch.meet(cond_stretch(cond, logs, frame, frame.len() - 1, n));
         if stretch.is_empty() {
             return Stretch::all_or_none(false, n);
         }

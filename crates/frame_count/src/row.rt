@@ -1,5 +1,5 @@
 //! The count of a row: all iterations of the last thread, with those of the other threads fixed.
-ghost use Rattle.std.specs.Prelude.{◌≡◌, ℕ, ◌+◌, ◌-◌, ◌<◌, ◌≤◌, ◌==◌, length, count_by, true, false, All, List};
+ghost use Rattle.std.specs.Prelude.{◌≡◌, ℕ, ◌+◌, ◌-◌, ◌^◌, ◌<◌, ◌≤◌, ◌==◌, length, count_by, true, false, All, List};
 ghost use Rattle.std.specs.List.{list_all, range_with_len};
 ghost use Rattle.load_log.specs.Values.{Values, value_at};
 ghost use Rattle.outcome_conv.specs.Conds.{conds_hold};
@@ -8,6 +8,7 @@ ghost use Rattle.frame_count.specs.Known.{IsKnown, Tells};
 ghost use Rattle.frame_count.specs.declared.stretch.Stretch.{Stretch};
 ghost use Rattle.frame_count.specs.Row.{Leaves, holds_along, left_along, mask_along};
 ghost use Rattle.frame_count.specs.Rows.{IsRow, row_holds};
+ghost use Rattle.perp_base.specs.declared.limits.TheConstants.{MOST_ITERATIONS};
 
 use crate::at_frame::holds_at;
 use crate::known::Known;
@@ -22,6 +23,7 @@ use perp_base::Frame;
 #[inline(always)]
 fn cond_word(cond: &Cond, logs: &Logs, frame: &Frame, at: usize) -> u64
     requires frame { (n : ℕ) × (at + 64 ≤ n) × IsFrameOf logs.now.logs n frame.now × IsGood logs.now.logs cond.now }
+    requires at { at + 64 ≤ 2 ^ 32 }
     requires reader { (cond.now.reader == length frame.now - 1) ≡ true }
     ensures { result ≡ mask_along (λ m. holds_along logs.now.logs frame.now m cond.now) at 64 }
 {
@@ -57,7 +59,8 @@ fn is_left(cond: &Cond, frame: &Frame, stretch: Stretch) -> bool
 /// At which of sixty-four iterations a condition holds, if its stretch leaves it to test; else all of them.
 #[inline(always)]
 fn one_word(cond: &Cond, logs: &Logs, frame: &Frame, stretch: Stretch, at: usize) -> u64
-    requires { (n : ℕ) × (at + 64 ≤ n) × IsFrameOf logs.now.logs n frame.now × IsGood logs.now.logs cond.now }
+    requires frame { (n : ℕ) × (at + 64 ≤ n) × IsFrameOf logs.now.logs n frame.now × IsGood logs.now.logs cond.now }
+    requires at { at + 64 ≤ 2 ^ 32 }
     ensures { result ≡ mask_along (λ m. left_along logs.now.logs frame.now stretch m cond.now) at 64 }
 {
     if is_left(cond, frame, stretch) {
@@ -69,7 +72,9 @@ fn one_word(cond: &Cond, logs: &Logs, frame: &Frame, stretch: Stretch, at: usize
 
 /// At which of sixty-four iterations the conditions that a stretch leaves to test hold.
 fn left_word(conds: &[Cond], logs: &Logs, frame: &Frame, stretch: Stretch, at: usize) -> u64
-    requires { (n : ℕ) × (at + 64 ≤ n) × IsFrameOf logs.now.logs n frame.now × All (IsGood logs.now.logs) conds.now }
+    requires frame { (n : ℕ) × (at + 64 ≤ n) × IsFrameOf logs.now.logs n frame.now
+        × All (IsGood logs.now.logs) conds.now }
+    requires at { at + 64 ≤ 2 ^ 32 }
     ensures { result ≡ mask_along (λ m. list_all (left_along logs.now.logs frame.now stretch m) conds.now) at 64 }
 {
     let mut word = u64::MAX;
@@ -86,6 +91,7 @@ fn left_word(conds: &[Cond], logs: &Logs, frame: &Frame, stretch: Stretch, at: u
 fn all_word(conds: &[Cond], logs: &Logs, frame: &Frame, stretch: Stretch, at: usize) -> u64
     requires frame { (n : ℕ) × (at + 64 ≤ n) × IsFrameOf logs.now.logs n frame.now
         × All (IsGood logs.now.logs) conds.now }
+    requires at { at + 64 ≤ 2 ^ 32 }
     requires stretch { Leaves (at + 64) logs.now.logs frame.now conds.now stretch }
     ensures { result ≡ mask_along (λ m. list_all (holds_along logs.now.logs frame.now m) conds.now) at 64 }
 {
@@ -173,6 +179,7 @@ impl<'a> Row<'a> {
     /// The same where words of one condition's column are known: whole words of its stretch by what is known.
     fn count_known(&self, known: &Known, from: usize, to: usize) -> u64
         requires row { (from ≤ to) × IsRow self.now to }
+        requires few { to ≤ MOST_ITERATIONS }
         requires known { IsKnown self.now.conds.now self.now.logs.now.logs known.now }
         ensures { result ≡ count_by (row_holds self.now) (range_with_len from (to - from)) }
     {
@@ -197,6 +204,7 @@ impl<'a> Row<'a> {
     /// The same, by what is known if there is something.
     pub(crate) fn count(&self, known: &Known, from: usize, to: usize) -> u64
         requires row { (from ≤ to) × IsRow self.now to }
+        requires few { to ≤ MOST_ITERATIONS }
         requires known { Tells self.now.conds.now self.now.logs.now.logs known.now }
         ensures { result ≡ count_by (row_holds self.now) (range_with_len from (to - from)) }
     {

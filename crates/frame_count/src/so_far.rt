@@ -12,7 +12,7 @@ use perp_base::{Frame, MOST_CONJUNCTIONS};
 
 /// Whether a condition speaks of the first `p` threads alone.
 #[inline(always)]
-fn settled(cond: &Cond, p: usize) -> bool
+pub(crate) fn settled(cond: &Cond, p: usize) -> bool
     ensures { result ≡ is_settled p cond.now }
 {
     (cond.reader as usize) < p && (cond.writer as usize) < p
@@ -20,7 +20,7 @@ fn settled(cond: &Cond, p: usize) -> bool
 
 /// Whether a condition holds, where it speaks of thread `p` and of none after it.
 #[inline(always)]
-fn passes_now(cond: &Cond, logs: &Logs, frame: &Frame, p: usize) -> bool
+pub(crate) fn passes_now(cond: &Cond, logs: &Logs, frame: &Frame, p: usize) -> bool
     requires { (n : ℕ) × IsFrameOf logs.now.logs n frame.now × IsGood logs.now.logs cond.now }
     ensures { result ≡ test_now logs.now.logs p frame.now cond.now }
 {

@@ -4,8 +4,7 @@ ghost use Rattle.std.specs.List.{range_with_len};
 ghost use Rattle.std.specs.List.Sorted.{IsNonDecreasing};
 ghost use Rattle.outcome_conv.specs.Conditions.{IsKind};
 ghost use Rattle.outcome_conv.specs.Conds.{kind_holds};
-ghost use Rattle.frame_count.specs.Row.{is_within, kind_test, mask_along, residue_fits};
-ghost use Rattle.perp_base.specs.declared.limits.TheConstants.{MOST_ITERATIONS};
+ghost use Rattle.frame_count.specs.Row.{IsToldBy, is_within, kind_test, mask_along, residue_fits};
 
 use outcome_conv::CondKind;
 
@@ -35,7 +34,7 @@ fn reached(value: u64, k: u64, a: u64) -> usize
 
 /// Which of sixty-four iterations are below `end`.
 fn below_word(end: usize, at: usize) -> u64
-    requires at { at + 64 ≤ MOST_ITERATIONS }
+    requires at { at + 64 ≤ 2 ^ 32 }
     ensures { result ≡ mask_along (λ m. nat_lt m end) at 64 }
 {
     if end <= at {
@@ -193,6 +192,24 @@ impl Stretch {
         !self.row && !self.own
     }
 
+    /// Up to and without which iteration a test that it tells of stays as it is in iteration `i`.
+    pub(crate) fn until(self, i: usize, n: usize) -> usize
+        requires { i < n }
+        ensures more { i < result }
+        ensures same { (test : ℕ → Bool) → IsToldBy self n test
+            → (m : ℕ) → i ≤ m → m < result → m < n → test m ≡ test i }
+    {
+        if i < self.from {
+            self.from
+        } else if i >= self.to {
+            n
+        } else if self.is_settled() {
+            self.to
+        } else {
+            i + 1
+        }
+    }
+
     /// Whether an iteration is in it.
     pub(crate) fn has(self, m: usize) -> bool
         ensures { result ≡ is_within self m }
@@ -234,7 +251,7 @@ impl Stretch {
 
     /// Which of sixty-four iterations are in it.
     pub(crate) fn word(self, at: usize) -> u64
-        requires at { at + 64 ≤ MOST_ITERATIONS }
+        requires at { at + 64 ≤ 2 ^ 32 }
         ensures { result ≡ mask_along (is_within self) at 64 }
     {
         below_word(self.to, at) & (u64::MAX - below_word(self.from, at))

@@ -9,12 +9,12 @@ use Rattle.frame_count.proofs.LogsOfRuns.{logs_give_the_values_lem, logs_meet_th
 use Rattle.heuristic.specs.RunPicks.{ListedAreHitsOfRuns, PicksAreThoseOfRuns, RunsCanBePicked}
 
 pub runs_can_be_picked_lem : RunsCanBePicked
-runs_can_be_picked_lem test n run logs kinds h r few z a =
+runs_can_be_picked_lem test n run logs kinds h r z a =
     let meet = logs_meet_the_conditions_lem test n run logs kinds h.holds_reads r z a in
     let count = a.count in
     let some = h.some_threads in
     let most = h.few_threads in (
-      record { few = few; thread = omega arith; threads = omega arith; whole = meet.0; names = meet.1 },
+      record { thread = omega arith; threads = omega arith; whole = meet.0; names = meet.1 },
       λ k d lt. let g = meet.1 k d lt in let reader = g.reader in let writer = g.writer in (omega arith, omega arith),
     )
 

@@ -1,7 +1,6 @@
 -- Laws: what is picked and listed over the logs of a run (the counter is after PerpLE's: Melissaris, Markakis, Shaw and
 -- Martonosi, MICRO 2020).
-use Rattle.std.specs.Prelude.{◌≡◌, ℕ, ◌<◌, ◌≤◌, All, Contains, List, length, map}
-use Rattle.perp_base.specs.declared.limits.TheConstants.{MOST_ITERATIONS}
+use Rattle.std.specs.Prelude.{◌≡◌, ℕ, ◌<◌, All, Contains, List, length, map}
 use Rattle.x86_subset.specs.Conjunctions.{conjunction_of}
 use Rattle.x86_subset.specs.Shape.{IsTest}
 use Rattle.x86_subset.specs.Test.{HoldsReads, LitmusTest}
@@ -23,7 +22,6 @@ RunsCanBePicked =
     (test : LitmusTest) (n : ℕ) (run : List Event) (logs : List Values) (kinds : List AtomKind)
     → IsTest test
     → IsRunOf test n run
-    → n ≤ MOST_ITERATIONS
     → AreKinds test kinds
     → AreLogsOf test run logs
     → CanPick (record { conds = conds_of test kinds; ends = test.ends }) logs n

@@ -2,7 +2,6 @@
 -- finds, and which of that is new. This project's own.
 use Rattle.std.specs.Prelude.{ℕ, ◌≤◌, All, Bool, not, Option, None, Some, List, [], ◌∷◌, if◌then◌else◌, length, map, option_and_then, slice_index, slice_set, take}
 use Rattle.std.specs.List.{flat_map, list_all}
-use Rattle.perp_base.specs.declared.limits.TheConstants.{MOST_ITERATIONS}
 use Rattle.x86_subset.specs.Conjunctions.{conjunction_of, conjunctions_of}
 use Rattle.load_log.specs.Values.{AreWhole, Values, value_at}
 use Rattle.outcome_conv.specs.declared.cond.Cond.{Cond}
@@ -14,7 +13,6 @@ use Rattle.frame_count.specs.Count.{IsOfLogs}
 
 -- logs of one to eight threads that are whole for n iterations, and conditions that name their threads and columns
 pub record CanPick (c : Conditions) (logs : List Values) (n : ℕ) : Type 0 where
-  pub few : n ≤ MOST_ITERATIONS
   pub thread : 1 ≤ length logs
   pub threads : length logs ≤ 8
   pub whole : AreWhole n logs

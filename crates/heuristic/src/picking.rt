@@ -10,7 +10,6 @@ ghost use Rattle.outcome_conv.specs.Picks.{link_by, picked_frame};
 ghost use Rattle.frame_count.specs.Count.{IsFrameOf, IsGood};
 ghost use Rattle.heuristic.specs.Plan.{plan_of};
 ghost use Rattle.heuristic.specs.Steps.{CanPick, frame_along};
-ghost use Rattle.perp_base.specs.declared.limits.TheConstants.{MOST_ITERATIONS};
 
 use crate::plan::Plan;
 use load_log::Logs;
@@ -21,7 +20,6 @@ use perp_base::Frame;
 /// writes the value, or the least `m` with `value < k * m + 1`.
 #[tactic(auto, using(crate::proofs::Rounding::rounded_up))]
 fn choose(kind: CondKind, n: u32, value: u64) -> Option<u32>
-    requires few { n ≤ MOST_ITERATIONS }
     requires kind { IsKind kind }
     ensures value { result ≡ choice_by n kind value }
     ensures below { IfSome result (λ m. m < n) }

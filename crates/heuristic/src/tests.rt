@@ -127,20 +127,22 @@ impl Outcome {
 #[test]
 fn message_passing_picks_what_the_flag_names(rt: HostRuntime) -> Result<(), Fail> {
     let alloc = rt.alloc();
-    let flag_first = vec![in alloc; reads(1, 0, ONE), reads(1, 1, ZERO)]?;
-    let conds = Conds::new(flag_first, vec![in alloc; 2]?);
-    let found = worked(
-        &rt,
-        alloc,
-        log(alloc, 0, 3, &[])?,
-        log(alloc, 2, 3, &[0, 1, 2, 3, 3, 3])?,
-        3,
-        &conds,
-    )?;
-    assert!(rt; found.picked_none(0));
-    assert!(rt; found.picked(1, [1, 1]));
-    assert!(rt; found.picked(2, [2, 2]));
-    assert!(rt; found.listed(&[]));
+    for kind in [ONE, JUST_ONE] {
+        let flag_first = vec![in alloc; reads(1, 0, kind), reads(1, 1, ZERO)]?;
+        let conds = Conds::new(flag_first, vec![in alloc; 2]?);
+        let found = worked(
+            &rt,
+            alloc,
+            log(alloc, 0, 3, &[])?,
+            log(alloc, 2, 3, &[0, 1, 2, 3, 3, 3])?,
+            3,
+            &conds,
+        )?;
+        assert!(rt; found.picked_none(0));
+        assert!(rt; found.picked(1, [1, 1]));
+        assert!(rt; found.picked(2, [2, 2]));
+        assert!(rt; found.listed(&[]));
+    }
     Ok(())
 }
 

@@ -55,7 +55,7 @@ value_tells test n x v m s source h a =
         (eq-eqb o.place s.place (ap (λ (z : Site). z.place) k.0)))
         (eq-eqb o.iteration m k.1)
 
-agrees_within : (test : LitmusTest) (n : ℕ) (run : List Event) (frame : List ℕ) (kind : AtomKind) → IsRunOf test n run
+pub agrees_within : (test : LitmusTest) (n : ℕ) (run : List Event) (frame : List ℕ) (kind : AtomKind) → IsRunOf test n run
     → IsFrame test n frame → Tells test kind
     → cond_holds (logged_in test run) frame (cond_within test kind) ≡ holds_within test run frame kind
 agrees_within test n run frame (Rf t column writer place) r f tells =

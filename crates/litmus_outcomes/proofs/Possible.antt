@@ -1,10 +1,10 @@
 -- What is seen in runs is an outcome of the test, and each outcome can be seen.
-use Rattle.std.proofs.Common.{◌≡◌, ◌↔◌, ℕ, zero, suc, ◌+◌, ◌*◌, ◌^◌, ◌<◌, ◌≤◌, true, Ok, Some, List, [], ◌∷◌, arith, length, map, refl, sym, ◌∙◌, subst}
+use Rattle.std.proofs.Common.{◌≡◌, ◌↔◌, ℕ, zero, suc, ◌+◌, ◌*◌, ◌^◌, ◌<◌, ◌≤◌, Bool, true, Ok, Some, List, [], ◌∷◌, arith, filter, length, map, refl, sym, ◌∙◌, subst}
 use native.Mathlib.Nat.{pow-suc}
 use Rattle.std.proofs.lemmas.Bool.{both_ways, false_from_ne_true}
 use Rattle.std.proofs.lemmas.List.Elements.{All-from_recursion, recursion_from_All}
 use Rattle.std.specs.List.{AllZip, AllByRecursion as Each, list_all, list_any, range_with_len}
-use Rattle.x86_subset.specs.Conjunctions.{conjunction_of}
+use Rattle.x86_subset.specs.Conjunctions.{conjunction_of, some_conjunction}
 use Rattle.x86_subset.specs.Test.{LitmusTest}
 use Rattle.x86_subset.specs.declared.test.Atom.{Atom}
 use Rattle.x86_subset.proofs.Conjoined.{zip_of}
@@ -81,7 +81,7 @@ hits_are_outcomes_lem checked n c run frame h o r f holds =
 
 -- A hit is a frame at which some conjunction holds.
 
-each_below : (P : ℕ → Type 0) (a k n : ℕ) → a + k ≤ n → ((i : ℕ) → i < n → P i) → Each P (range_with_len a k)
+pub each_below : (P : ℕ → Type 0) (a k n : ℕ) → a + k ≤ n → ((i : ℕ) → i < n → P i) → Each P (range_with_len a k)
 each_below P a zero n l f = tt
 each_below P a (suc k) n l f = (f a (omega arith), each_below P (a + 1) k n (omega arith) f)
 
@@ -93,14 +93,19 @@ zero_power : (t : ℕ) → 1 ≤ t → 0 ^ t ≡ 0
 zero_power zero some = absurd (omega arith)
 zero_power (suc t) some = let e : 0 ^ suc t ≡ 0 ^ t * 0 = pow-suc 0 t in omega arith
 
-pub record HitAt (checked : CheckedTest) (n : ℕ) (run : List Event) : Type 0 where
+-- a frame at which all atoms of a conjunction pass a test
+pub record HitBy (checked : CheckedTest) (n : ℕ) (passes : List ℕ → AtomKind → Bool) : Type 0 where
   pub frame : List ℕ
   pub is_frame : IsFrame checked.test n frame
   pub conjunction : ℕ
   pub there : conjunction < length checked.test.ends
-  pub holds : list_all (holds_in checked.test run frame) (kinds_in checked conjunction) ≡ true
+  pub holds : list_all (passes frame) (kinds_in checked conjunction) ≡ true
 
-frames_are : (test : LitmusTest) (n : ℕ) → 1 ≤ length test.bodies
+-- and at which they hold
+abbrev pub HitAt : CheckedTest → ℕ → List Event → Type 0
+HitAt checked n run = HitBy checked n (holds_in checked.test run)
+
+pub frames_are : (test : LitmusTest) (n : ℕ) → 1 ≤ length test.bodies
     → Each (IsFrame test n) (frames_of n (length test.bodies))
 frames_are test zero some =
     let P : ℕ → Type 0 = λ k. Each (IsFrame test 0) (map (frame_of 0 (length test.bodies)) (range_with_len 0 k)) in
@@ -109,13 +114,16 @@ frames_are test (suc n) some =
     each_map (IsFrame test (suc n)) (frame_of (suc n) (length test.bodies))
     (λ number. frame_is test (suc n) number (omega arith)) (range_with_len 0 (suc n ^ length test.bodies))
 
-pub hit_at : (checked : CheckedTest) (n : ℕ) (run : List Event) (hits : List (List ℕ)) → IsChecked checked
-    → hits_of checked.test checked.kinds n run ≡ hits → (hits ≡ [] → ⊥) → HitAt checked n run
-hit_at checked n run [] h e some = absurd (some refl)
-hit_at checked n run (frame ∷ hits) h e some =
+pub hit_by : (checked : CheckedTest) (n : ℕ) (passes : List ℕ → AtomKind → Bool) (hits : List (List ℕ))
+    → IsChecked checked
+    → filter (λ frame. some_conjunction (passes frame) checked.test.ends checked.kinds)
+    (frames_of n (length checked.test.bodies)) ≡ hits → (hits ≡ [] → ⊥) → HitBy checked n passes
+hit_by checked n passes [] h e some = absurd (some refl)
+hit_by checked n passes (frame ∷ hits) h e some =
     let test = checked.test in
-    let s = filter_split (is_hit test checked.kinds run) (frames_of n (length test.bodies)) [] frame hits e in
-    let p = list_all (holds_in test run frame) in
+    let q : List ℕ → Bool = λ f. some_conjunction (passes f) test.ends checked.kinds in
+    let s = filter_split q (frames_of n (length test.bodies)) [] frame hits e in
+    let p = list_all (passes frame) in
     let any : list_any (λ c. p (conjunction_of test.ends checked.kinds c)) (range_with_len 0 (length test.ends))
     ≡ true =
     sym (any_map p (conjunction_of test.ends checked.kinds) (range_with_len 0 (length test.ends))) ∙ s.passes in
@@ -131,6 +139,10 @@ hit_at checked n run (frame ∷ hits) h e some =
           (each_below (λ c. c < length test.ends) 0 (length test.ends) (length test.ends) (omega arith) (λ c l. l));
       holds = f.passes;
     }
+
+pub hit_at : (checked : CheckedTest) (n : ℕ) (run : List Event) (hits : List (List ℕ)) → IsChecked checked
+    → hits_of checked.test checked.kinds n run ≡ hits → (hits ≡ [] → ⊥) → HitAt checked n run
+hit_at checked n run hits h e some = hit_by checked n (holds_in checked.test run) hits h e some
 
 pub outcomes_are_countable_lem : OutcomesAreCountable
 outcomes_are_countable_lem checked n c h there p l =

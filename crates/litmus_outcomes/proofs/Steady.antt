@@ -69,7 +69,7 @@ own_exactly test n run frame t column p r f tells =
     ap (is_exactly s i) (k.is ∙ ap (λ z. Some (in_iteration s z)) (sym same)) ∙ exactly_at s i)
     (exactly_least s i source)
 
-steady_agrees : (test : LitmusTest) (n : ℕ) (run : List Event) (frame : List ℕ) (kind : AtomKind) → IsRunOf test n run
+pub steady_agrees : (test : LitmusTest) (n : ℕ) (run : List Event) (frame : List ℕ) (kind : AtomKind) → IsRunOf test n run
     → IsFrame test n frame → Tells test kind → is_steady kind ≡ true
     → holds_in test run frame kind ≡ holds_within test run frame kind
 steady_agrees test n run frame (Rf t column writer place) r f tells h =
@@ -113,7 +113,7 @@ ordered_is_steady_lem checked c h o =
 
 -- what is seen
 
-steady_outcome : (checked : CheckedTest) (n c : ℕ) (run : List Event) (frame : List ℕ) → IsChecked checked
+pub steady_outcome : (checked : CheckedTest) (n c : ℕ) (run : List Event) (frame : List ℕ) → IsChecked checked
     → IsSteady checked c → IsRunOf checked.test n run → IsFrame checked.test n frame
     → list_all (holds_in checked.test run frame) (kinds_in checked c) ≡ true → IsPossible checked.test c
 steady_outcome checked n c run frame h steady r f holds =

@@ -50,7 +50,8 @@ value_of (Reads x v) = Some v
 value_of Fences = None
 value_of (Exchanges x v w) = Some v
 
--- what a register of thread t holds at the end: a constant, or what the instruction at this place read
+-- what a register of thread t holds at the end: a constant, or what the instruction at this place read (an execution has
+-- one action for each instruction, at the same place)
 abbrev pub held_value : List Step → ℕ → Held → Option ℕ
 held_value steps t (held.Constant v) = Some v
 held_value steps t (held.Read place) = option_and_then value_of (slice_get (done_by t steps) place)

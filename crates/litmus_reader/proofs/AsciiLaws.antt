@@ -8,7 +8,7 @@ use Rattle.std.proofs.Math.Numerals.{one-add}
 use Rattle.std.proofs.lemmas.Bool.{and_parts, false≢true}
 use Rattle.std.proofs.lemmas.Bool.Decides.{nat_tests}
 use Rattle.std.proofs.lemmas.List.Elements.{All-nil, All-push}
-use Rattle.x86_subset.specs.declared.cell.InstrError.TheVariants.{TooLarge}
+use Rattle.x86_subset.specs.declared.cell.InstrError.TheVariants.{Number as PastRange}
 use Rattle.x86_subset.specs.declared.form.Slot.{Slot}
 use Rattle.x86_subset.specs.declared.form.Slot.TheVariants.{Mark, Maybe, Word, Location, Register, Any, Small, Thread}
 use Rattle.x86_subset.specs.declared.instr.Reg.{Reg}
@@ -246,7 +246,7 @@ parse_plain : (ts : List Lexeme) (form : Form) → ArePlain ts → parse ts ≡ 
 unfolding parse
 parse_plain ts form h e = go (meaning cell_rows ts) refl e
   where
-    small : (g : Form) (v : Bool) → IsAsciiForm g → cond v (Ok g) (Err TooLarge) ≡ Ok form → IsAsciiForm form
+    small : (g : Form) (v : Bool) → IsAsciiForm g → cond v (Ok g) (Err PastRange) ≡ Ok form → IsAsciiForm form
     small g true k e = let p : g ≡ form = cc in subst IsAsciiForm p k
     small g false k e = absurd cc
 

@@ -196,7 +196,7 @@ mutual
         {kind : LitmusKind} {line : ℕ} → NoTerm last around ts kind line
         → Term last joined around read ts (refuse kind line)
 
-  -- `After last holds around read tokens answer`: a term has ended here, one in parentheses that holds a `\/` or not
+  -- `Behind last holds around read tokens answer`: a term has ended here, one in parentheses that holds a `\/` or not
   pub data Behind (last : ℕ) : Bool → List Paren → Conjunctions → List Lexeme → Told → Type 0 where
     -- `/\`, and a further term
     and : {around : List Paren} {read : Conjunctions} {t : Lexeme} {ts : List Lexeme} {r : Told}

@@ -4,4 +4,5 @@ pub mod Causes
 pub mod Last
 pub mod Memory
 pub mod Options
+pub mod Turns
 pub mod View

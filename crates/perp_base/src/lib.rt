@@ -9,6 +9,11 @@
 //!   (`too_long`, `long`), and never takes more than one byte past its limit (`taken`).
 //! - `write_whole` appends all of the bytes (`ok`), or where it fails a front part of them (`err`).
 //!
+//! Each source and sink counts its calls (`called`). `read_input` makes at most `limit` + 1 of them, and where it
+//! answers an input at most one more than that has bytes (`calls`, `calls_whole`). `write_whole` makes at most as many
+//! as there are bytes (`calls`), and each hands the sink all bytes that are not yet appended (`turns`). The count is a
+//! natural number that only proofs read (`Calls`).
+//!
 //! Whether told or not, a failure is answered only where the count of faults rose in that call (`cause`, and `fault` of
 //! `read_input`). A count stands still at the last value of its type.
 //!
@@ -17,6 +22,7 @@
 //! writer of std did (`reader`, `writer`).
 #![tactic(auto)]
 
+mod calls;
 mod failure;
 mod frame;
 mod limits;
@@ -29,6 +35,7 @@ mod sink;
 mod source;
 mod standard;
 
+pub use calls::Calls;
 pub use failure::{Failed, NoMemory};
 pub use frame::Frame;
 pub use limits::{

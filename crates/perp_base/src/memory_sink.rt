@@ -1,11 +1,11 @@
 //! A sink over memory, for tests and for whoever wants the whole output.
-ghost use Rattle.std.specs.Prelude.{◌≡◌, ◌⊎◌, ◌<◌, ◌≤◌, ◌↔◌, length, Some, IfOk, IsErr, Contains};
+ghost use Rattle.std.specs.Prelude.{◌≡◌, ◌⊎◌, ◌<◌, ◌≤◌, ◌+◌, ◌↔◌, length, Some, IfOk, IsErr, Contains};
 ghost use Rattle.std.specs.Io.{WritesAtMost};
 ghost use Rattle.std.specs.Io.KnownBytes.{WriteAppends};
 ghost use Rattle.perp_base.specs.Causes.{next_count, HasCause};
 ghost use Rattle.perp_base.specs.Memory.{new_sink, next_taken, SinkGoes};
 
-use crate::{Failed, NoMemory, Sink};
+use crate::{Calls, Failed, NoMemory, Sink};
 use std::alloc::Global;
 use std::marker::Model;
 
@@ -17,8 +17,9 @@ pub struct MemSink {
     room: usize,
     most: usize,
     failing: Vec<u64>,
-    calls: u64,
+    number: u64,
     faults: u64,
+    calls: Calls,
 }
 
 impl Model for MemSink {
@@ -32,8 +33,9 @@ impl Model for MemSink {
       room = s.room;
       most = s.most;
       failing = s.failing.items;
-      calls = s.calls;
+      number = s.number;
       faults = s.faults;
+      calls = s.calls.made;
     } };
 
     ghost invariant = { λ s. (vec_len s.bytes + s.room ≤ vec_capacity s.bytes) × (0 < s.most) };
@@ -57,8 +59,9 @@ impl MemSink {
             room,
             most,
             failing,
-            calls: 0,
+            number: 0,
             faults: 0,
+            calls: Calls::none(),
         })
     }
 
@@ -71,7 +74,9 @@ impl MemSink {
 }
 
 impl Sink for MemSink {
-    ghost seen = { λ sink. record { bytes = Some sink.written; faults = sink.faults } };
+    ghost seen = { λ sink. record { bytes = Some sink.written; faults = sink.faults; calls = sink.calls } };
+
+    ghost goes = { SinkGoes };
 
     fn write(&mut self, bytes: &[u8]) -> Result<usize, Failed>
         requires { 0 < length bytes.now }
@@ -79,14 +84,16 @@ impl Sink for MemSink {
         ensures bound { WritesAtMost result bytes.now }
         ensures bytes { WriteAppends (Some self.old.written) (Some self.new.written) result bytes.now }
         ensures cause { HasCause self.old.faults self.new.faults result }
+        ensures called { self.new.calls ≡ self.old.calls + 1 }
 
         // The whole answer, and the whole state after it.
-        ensures failing { IsErr result ↔ (Contains self.old.failing (next_count self.old.calls) ⊎ (self.old.room ≡ 0)) }
+        ensures failing { IsErr result ↔ (Contains self.old.failing (next_count self.old.number) ⊎ (self.old.room ≡ 0)) }
         ensures taken { IfOk result (λ n. n ≡ next_taken self.old (length bytes.now)) }
         ensures goes { SinkGoes self.old bytes.now result self.new }
     {
-        self.calls = self.calls.saturating_add(1);
-        if self.failing.contains(&self.calls) || self.room == 0 {
+        self.calls = self.calls.and_one();
+        self.number = self.number.saturating_add(1);
+        if self.failing.contains(&self.number) || self.room == 0 {
             self.faults = self.faults.saturating_add(1);
             return Err(Failed);
         }

@@ -1,11 +1,11 @@
 //! A source over bytes in memory, for tests and for whoever has the whole input.
-ghost use Rattle.std.specs.Prelude.{◌≡◌, ◌<◌, ◌≤◌, ◌↔◌, length, Some, IfOk, IsErr, Contains};
+ghost use Rattle.std.specs.Prelude.{◌≡◌, ◌<◌, ◌≤◌, ◌+◌, ◌↔◌, length, Some, IfOk, IsErr, Contains};
 ghost use Rattle.std.specs.Io.{ReadsAtMost};
 ghost use Rattle.std.specs.Io.KnownBytes.{ReadConsumes};
 ghost use Rattle.perp_base.specs.Causes.{next_count, HasCause};
 ghost use Rattle.perp_base.specs.Memory.{new_source, next_given, SourceGoes};
 
-use crate::{Failed, NoMemory, Source};
+use crate::{Calls, Failed, NoMemory, Source};
 use std::alloc::Global;
 use std::marker::Model;
 
@@ -16,8 +16,9 @@ pub struct MemSource {
     place: usize,
     most: usize,
     failing: Vec<u64>,
-    calls: u64,
+    number: u64,
     faults: u64,
+    calls: Calls,
 }
 
 impl Model for MemSource {
@@ -30,8 +31,9 @@ impl Model for MemSource {
       left = drop s.place s.bytes.items;
       most = s.most;
       failing = s.failing.items;
-      calls = s.calls;
+      number = s.number;
       faults = s.faults;
+      calls = s.calls.made;
     } };
 
     ghost invariant = { λ s. (s.place ≤ length s.bytes.items) × (0 < s.most) };
@@ -55,28 +57,31 @@ impl MemSource {
             place: 0,
             most,
             failing,
-            calls: 0,
+            number: 0,
             faults: 0,
+            calls: Calls::none(),
         })
     }
 }
 
 impl Source for MemSource {
-    ghost seen = { λ source. record { bytes = Some source.left; faults = source.faults } };
+    ghost seen = { λ source. record { bytes = Some source.left; faults = source.faults; calls = source.calls } };
 
     fn read(&mut self, buf: &mut [u8]) -> Result<usize, Failed>
         requires { 0 < length buf.old }
         ensures bound { ReadsAtMost result buf.new }
         ensures bytes { ReadConsumes (Some self.old.left) (Some self.new.left) result buf.new }
         ensures cause { HasCause self.old.faults self.new.faults result }
+        ensures called { self.new.calls ≡ self.old.calls + 1 }
 
         // The whole answer, and the whole state after it.
-        ensures failing { IsErr result ↔ Contains self.old.failing (next_count self.old.calls) }
+        ensures failing { IsErr result ↔ Contains self.old.failing (next_count self.old.number) }
         ensures given { IfOk result (λ n. n ≡ next_given self.old (length buf.old)) }
         ensures goes { SourceGoes self.old result self.new }
     {
-        self.calls = self.calls.saturating_add(1);
-        if self.failing.contains(&self.calls) {
+        self.calls = self.calls.and_one();
+        self.number = self.number.saturating_add(1);
+        if self.failing.contains(&self.number) {
             self.faults = self.faults.saturating_add(1);
             return Err(Failed);
         }

@@ -12,8 +12,8 @@ use std::alloc::{AllocError, Global};
 
 /// Where bytes come from. A source may tell contracts which bytes it has left, and then tells them after each call too.
 pub trait Source {
-    /// The bytes that reads will give from here on, where the source tells them, and how often a read has failed. The
-    /// count stands still at the last value of its type.
+    /// The bytes that reads will give from here on, where the source tells them, how often a read has failed, and how
+    /// often one was asked for. The count of faults stands still at the last value of its type.
     ghost seen: { Self → View };
 
     /// Puts the next bytes at the front of `buf`, and says how many. `Ok(0)` is the end of the input.
@@ -21,7 +21,8 @@ pub trait Source {
         requires { 0 < length buf.old }
         ensures bound { ReadsAtMost result buf.new }
         ensures bytes { ReadConsumes (seen self.old).bytes (seen self.new).bytes result buf.new }
-        ensures cause { HasCause (seen self.old).faults (seen self.new).faults result };
+        ensures cause { HasCause (seen self.old).faults (seen self.new).faults result }
+        ensures called { (seen self.new).calls ≡ (seen self.old).calls + 1 };
 }
 
 /// Why an input was not read whole.
@@ -64,6 +65,11 @@ pub fn read_input<S: Source>(
     ensures fault { IsErrOf result ReadError.Fault → Rose (S.seen source.old).faults (S.seen source.new).faults }
     ensures later { (S.seen source.old).faults ≤ (S.seen source.new).faults }
     ensures taken { GaveAtMost (S.seen source.old).bytes (S.seen source.new).bytes (limit + 1) }
+
+    // A call that gives bytes gives one at least, and none comes after the one that finds the end.
+    ensures calls { (S.seen source.new).calls ≤ (S.seen source.old).calls + limit + 1 }
+    ensures calls_whole { IfOk result (λ bytes. (S.seen source.new).calls
+        ≤ (S.seen source.old).calls + vec_len bytes + 1) }
 {
     let mut bytes = Vec::new(alloc);
     let mut piece = [0u8; PIECE];

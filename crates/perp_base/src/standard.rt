@@ -1,12 +1,12 @@
 //! The adapters over std's readers and writers, the edge of what is proved. They tell no bytes, since no contract can
 //! say what a file or a terminal holds.
-ghost use Rattle.std.specs.Prelude.{◌≡◌, ◌<◌, None, length, take, IfOk};
+ghost use Rattle.std.specs.Prelude.{◌≡◌, ◌<◌, ◌+◌, None, length, take, IfOk};
 ghost use Rattle.std.specs.Io.{ReadsAtMost, WritesAtMost};
 ghost use Rattle.std.specs.Io.KnownBytes.{Appends, ReadConsumes, WriteAppends};
 ghost use Rattle.perp_base.specs.Causes.{CountsFaults, HasCause};
 ghost use Rattle.perp_base.specs.Adapted.{adapted};
 
-use crate::{Failed, Sink, Source};
+use crate::{Calls, Failed, Sink, Source};
 use std::io::{Read, Write};
 use std::marker::Model;
 
@@ -15,6 +15,7 @@ use std::marker::Model;
 pub struct StdSource<I> {
     reader: I,
     faults: u64,
+    calls: Calls,
 }
 
 impl<I> Model for StdSource<I> {
@@ -22,7 +23,7 @@ impl<I> Model for StdSource<I> {
 
     ghost Value = { Adapted I };
 
-    ghost view = { λ s. record { inner = s.reader; faults = s.faults } };
+    ghost view = { λ s. record { inner = s.reader; faults = s.faults; calls = s.calls.made } };
 }
 
 impl<I: Read> StdSource<I> {
@@ -30,23 +31,29 @@ impl<I: Read> StdSource<I> {
     pub fn new(reader: I) -> StdSource<I>
         ensures { result ≡ adapted reader }
     {
-        StdSource { reader, faults: 0 }
+        StdSource {
+            reader,
+            faults: 0,
+            calls: Calls::none(),
+        }
     }
 }
 
 impl<I: Read> Source for StdSource<I> {
-    ghost seen = { λ source. record { bytes = None; faults = source.faults } };
+    ghost seen = { λ source. record { bytes = None; faults = source.faults; calls = source.calls } };
 
     fn read(&mut self, buf: &mut [u8]) -> Result<usize, Failed>
         requires { 0 < length buf.old }
         ensures bound { ReadsAtMost result buf.new }
         ensures bytes { ReadConsumes None None result buf.new }
         ensures cause { HasCause self.old.faults self.new.faults result }
+        ensures called { self.new.calls ≡ self.old.calls + 1 }
 
         // It hands on what the reader gives, and counts.
         ensures reader { ReadConsumes (I.remaining self.old.inner) (I.remaining self.new.inner) result buf.new }
         ensures counts { CountsFaults self.old.faults self.new.faults result }
     {
+        self.calls = self.calls.and_one();
         match self.reader.read(buf) {
             Ok(count) => Ok(count),
             Err(_) => {
@@ -63,6 +70,7 @@ impl<I: Read> Source for StdSource<I> {
 pub struct StdSink<W> {
     writer: W,
     faults: u64,
+    calls: Calls,
 }
 
 impl<W> Model for StdSink<W> {
@@ -70,7 +78,7 @@ impl<W> Model for StdSink<W> {
 
     ghost Value = { Adapted W };
 
-    ghost view = { λ s. record { inner = s.writer; faults = s.faults } };
+    ghost view = { λ s. record { inner = s.writer; faults = s.faults; calls = s.calls.made } };
 }
 
 impl<W: Write> StdSink<W> {
@@ -78,12 +86,16 @@ impl<W: Write> StdSink<W> {
     pub fn new(writer: W) -> StdSink<W>
         ensures { result ≡ adapted writer }
     {
-        StdSink { writer, faults: 0 }
+        StdSink {
+            writer,
+            faults: 0,
+            calls: Calls::none(),
+        }
     }
 }
 
 impl<W: Write> Sink for StdSink<W> {
-    ghost seen = { λ sink. record { bytes = None; faults = sink.faults } };
+    ghost seen = { λ sink. record { bytes = None; faults = sink.faults; calls = sink.calls } };
 
     fn write(&mut self, bytes: &[u8]) -> Result<usize, Failed>
         requires { 0 < length bytes.now }
@@ -91,12 +103,14 @@ impl<W: Write> Sink for StdSink<W> {
         ensures bound { WritesAtMost result bytes.now }
         ensures bytes { WriteAppends None None result bytes.now }
         ensures cause { HasCause self.old.faults self.new.faults result }
+        ensures called { self.new.calls ≡ self.old.calls + 1 }
 
         // It hands on what the writer took, and counts.
         ensures writer { IfOk result (λ n. Appends (W.contents self.old.inner) (W.contents self.new.inner)
             (take n bytes.now)) }
         ensures counts { CountsFaults self.old.faults self.new.faults result }
     {
+        self.calls = self.calls.and_one();
         if let Ok(count) = self.writer.write(bytes) {
             if count > 0 && self.writer.flush().is_ok() {
                 return Ok(count);

@@ -81,6 +81,31 @@ fn each_piece_takes_one_call(rt: HostRuntime) -> Result<(), Fail> {
     Ok(())
 }
 
+/// A source that gives one byte a call is asked `limit` + 1 times, and no more, whether its input has as many bytes as
+/// the limit or more: the call after those is the first that fails.
+#[test]
+fn no_input_takes_more_calls_than_one_past_the_limit(rt: HostRuntime) -> Result<(), Fail> {
+    let alloc = rt.alloc();
+    let rows: [(usize, u64, usize, Result<usize, ReadError>); 5] = [
+        (0, 1, 0, Ok(0)),
+        (0, 1, 1, Err(ReadError::TooLong)),
+        (3, 4, 3, Ok(3)),
+        (3, 4, 4, Err(ReadError::TooLong)),
+        (3, 4, 6, Err(ReadError::TooLong)),
+    ];
+    for (limit, calls, len, want) in rows {
+        let mut source = MemSource::new(alloc, &b"abcdef"[..len], 1, &[calls + 1])?;
+        let read = read_input(alloc, &mut source, limit).map(|bytes| bytes.len());
+        assert_eq!(rt; read, want, "{len} bytes at {limit}");
+        assert_eq!(rt;
+            source.read(&mut [0u8; 1]),
+            Err(Failed),
+            "{len} bytes at {limit}"
+        );
+    }
+    Ok(())
+}
+
 #[derive(Drop)]
 struct Broken;
 

@@ -20,7 +20,7 @@ use Rattle.tso_words.specs.declared.step.TracedStep.{TracedStep}
 use Rattle.perp_base.specs.declared.options.Options.{Options}
 use Rattle.perp_base.specs.declared.schedule.Schedule.{Schedule}
 use Rattle.perp_loop.specs.declared.went.Went.{Went}
-use Rattle.perp_loop.specs.declared.went.Went.TheVariants.{Turn, Finished}
+use Rattle.perp_loop.specs.declared.went.Went.TheVariants.{Action, Finished}
 use Rattle.perp_loop.specs.Crews.{IsCrew, IsSameWalker, Job, Enrolled}
 use Rattle.perp_loop.specs.Replaying.{IsAtTurn, SteppedOn, goes_on_after, owed_by, players_in, sum_below}
 use Rattle.tso_runs.specs.Schedule.{named}
@@ -182,7 +182,7 @@ module _ (job : Job) (schedule : Schedule) where
 
     pub plays_step : (went : Went) → SteppedOn went w trace new.walker trace' → IsFlat trace'.words trace'.history
         → Plays job schedule (set members t new) (set playing t (goes_on_after went)) (t + 1) generator' trace'
-    plays_step Turn s flat = goes s flat
+    plays_step Action s flat = goes s flat
     plays_step Finished s flat = finished s.0 s.1 (ap (λ (x : Tracing). x.trace) s.2)
 
   -- the start
@@ -298,7 +298,7 @@ turns_fall job members playing t new trace trace' went count below few long flag
     falls : (went : Went) → SteppedOn went (walker_at job members t) trace new.walker trace' →
         cond (goes_on_after went) 1 0 + (length (slots_left new.walker) + owed new.walker)
         < 1 + (length (slots_left (walker_at job members t)) + owed (walker_at job members t))
-    falls Turn s = let e = s.ends in omega (arith, e)
+    falls Action s = let e = s.ends in omega (arith, e)
     falls Finished s = let e = ap (λ (v : Walking). length (slots_left v) + owed v) s.1 in omega (arith, e)
 
 -- the thread that is picked has turns left

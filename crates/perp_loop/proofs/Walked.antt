@@ -11,7 +11,7 @@ use Rattle.tso_machine.specs.Part.{Fills, own_after}
 use Rattle.tso_words.specs.declared.step.Step.{Step}
 use Rattle.tso_words.specs.Appended.{Appends}
 use Rattle.perp_loop.specs.declared.went.Went.{Went}
-use Rattle.perp_loop.specs.declared.went.Went.TheVariants.{Turn, Finished}
+use Rattle.perp_loop.specs.declared.went.Went.TheVariants.{Action, Finished}
 use Rattle.tso_runs.specs.Fits.{IsLawful}
 use Rattle.tso_runs.specs.SharedSteps.{shared_steps, steps_of}
 use Rattle.perp_loop.specs.Walking.{Walking, Finishes, buffer_after, actions_in, Takes, StandsFor, IsFinished, IsNew, owed, TakesTurn, Stepped, Walks}
@@ -147,9 +147,9 @@ lawful_from_finishes w part n f =
 
 module _ {P : Type 0} (steps : P → List Step) (ready : P → ℕ → Type 0) (kept : P → P → Type 0) where
   -- a step that takes no turn finds none
-  pub found_none : (went : Went) (old : Walking) (before : P) (new : Walking) (after : P) → (went ≡ Turn → ⊥) →
+  pub found_none : (went : Went) (old : Walking) (before : P) (new : Walking) (after : P) → (went ≡ Action → ⊥) →
       Stepped steps ready kept went old before new after → IsFinished old × (new ≡ old) × (after ≡ before)
-  found_none Turn old before new after n s = absurd (n refl)
+  found_none Action old before new after n s = absurd (n refl)
   found_none Finished old before new after n s = s
 
   pub walks_on : (old now new : Walking) (before port after : P) → Comes steps ready kept old before now port

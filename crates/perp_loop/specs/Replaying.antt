@@ -9,7 +9,7 @@ use Rattle.tso_words.specs.Traces.{Trace, Tracing, HasRoom, Continues}
 use Rattle.perp_base.specs.declared.schedule.Schedule.{Schedule}
 use Rattle.perp_base.specs.declared.schedule.Schedule.TheVariants.{Turns, Seeded}
 use Rattle.perp_loop.specs.declared.went.Went.{Went}
-use Rattle.perp_loop.specs.declared.went.Went.TheVariants.{Turn, Finished}
+use Rattle.perp_loop.specs.declared.went.Went.TheVariants.{Action, Finished}
 use Rattle.std.specs.List.{range_with_len}
 use Rattle.perp_loop.specs.Crews.{Job}
 use Rattle.perp_loop.specs.Walking.{Walking, Stepped}
@@ -37,7 +37,7 @@ IsAtTurn (Seeded q) i generator =
 
 -- whether a step took a turn
 abbrev pub goes_on_after : Went → Bool
-goes_on_after Turn = true
+goes_on_after Action = true
 goes_on_after Finished = false
 
 -- the threads below n that these say are playing, in rising order

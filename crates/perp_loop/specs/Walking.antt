@@ -12,7 +12,7 @@ use Rattle.tso_words.specs.declared.step.Step.{Step}
 use Rattle.tso_words.specs.Appended.{Appends}
 use Rattle.perp_base.specs.declared.options.Options.{Options}
 use Rattle.perp_loop.specs.declared.went.Went.{Went}
-use Rattle.perp_loop.specs.declared.went.Went.TheVariants.{Turn, Finished}
+use Rattle.perp_loop.specs.declared.went.Went.TheVariants.{Action, Finished}
 use Rattle.tso_runs.specs.Fits.{IsLawful}
 use Rattle.tso_runs.specs.Drained.{DrainsWhereDue}
 pub use Rattle.tso_runs.specs.Own.{buffer_after}
@@ -85,7 +85,7 @@ pub record TakesTurn {P : Type 0} (steps : P → List Step) (ready : P → ℕ �
 -- a step takes the next turn, or finds that none is left
 abbrev pub Stepped : {P : Type 0} → (P → List Step) → (P → ℕ → Type 0) → (P → P → Type 0) → Went → Walking → P → Walking
     → P → Type 0
-Stepped steps ready kept Turn old before new after = TakesTurn steps ready kept old before new after
+Stepped steps ready kept Action old before new after = TakesTurn steps ready kept old before new after
 Stepped steps ready kept Finished old before new after = IsFinished old × (new ≡ old) × (after ≡ before)
 
 -- nothing is done yet

@@ -130,12 +130,12 @@ impl<'a> Walker<'a> {
             let next = next_position(self.iteration, self.place, body.len());
             self.iteration = next.0;
             self.place = next.1;
-            Went::Turn
+            Went::Action
         } else if self.buffer.is_empty() {
             Went::Finished
         } else {
             drain(&mut self.buffer, 1, port);
-            Went::Turn
+            Went::Action
         }
     }
 
@@ -159,7 +159,7 @@ impl<'a> Walker<'a> {
             × (self.new.log ≡ filter_map value_read part) }
     {
         self.call(gate);
-        while let Went::Turn = self.step(port) {
+        while let Went::Action = self.step(port) {
             self.call(gate);
         }
     }

@@ -5,8 +5,8 @@ ghost use Rattle.perp_loop.specs.Replaying.{goes_on_after};
 /// Whether a step of a walker found something to do.
 #[derive(Clone, Copy, PartialEq, Eq)]
 pub enum Went {
-    /// It took a turn.
-    Turn,
+    /// It made the next action, or drained a write after the last one.
+    Action,
     /// Nothing was left to do.
     Finished,
 }
@@ -17,7 +17,7 @@ impl Went {
         ensures { result ≡ goes_on_after self }
     {
         match self {
-            Went::Turn => true,
+            Went::Action => true,
             Went::Finished => false,
         }
     }

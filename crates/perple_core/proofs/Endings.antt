@@ -45,7 +45,7 @@ same_command words old new command taking taken is took =
     cc
 
 -- one text has one refusal that is due, or none
-one_due : (command : Command) (bytes : List ℕ) (a b : Option Status) → IsDue command bytes a → IsDue command bytes b
+pub one_due : (command : Command) (bytes : List ℕ) (a b : Option Status) → IsDue command bytes a → IsDue command bytes b
     → a ≡ b
 one_due command bytes a b p q =
     sym p.is ∙ ap (due_for_reading command) (same_reading bytes p.answer q.answer p.reads q.reads) ∙ q.is

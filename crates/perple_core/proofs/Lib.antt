@@ -5,3 +5,6 @@ pub mod Working
 pub mod Refusals
 pub mod Endings
 pub mod Headlines
+pub mod Answering
+pub mod Requests
+pub mod Same

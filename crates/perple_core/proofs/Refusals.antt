@@ -1,35 +1,17 @@
--- From the causes of one layer to those of the next.
-use Rattle.std.proofs.Common.{◌≡◌, ◌⊎◌, ℕ, List, Some, refl, inl, inr, subst, sym}
+-- From what is left, and what is due, in one layer to those of the next.
+use Rattle.std.proofs.Common.{◌≡◌, ◌⊎◌, ℕ, List, Some, refl, inl, inr}
 use Rattle.report_text.specs.declared.status.Status.{Status}
 use Rattle.report_text.specs.declared.status.Status.TheVariants.{Memory}
 use Rattle.x86_subset.specs.Test.{LitmusTest}
 use Rattle.tso_words.specs.Seats.{Ended as Closed}
-use Rattle.command_words.specs.Words.{command_of}
 use Rattle.perp_base.specs.View.{View}
 use Rattle.program_edge.specs.Field.{IsStill}
 use Rattle.program_edge.specs.Form.{due_for_form}
 use Rattle.litmus_reader.specs.Answer.{Answer, Accepted, Refused as Unread, Over as TooLarge}
-use Rattle.perple_core.specs.Due.{Took, Refused, IsInputRefusal, IsDue, due_for_reading}
-use Rattle.perple_core.specs.Due.IsInputRefusal.{no_memory as input_memory, no_reading as input_reading, too_long as input_long}
-use Rattle.program_edge.specs.Ending.Refused.{no_memory, no_reading, too_long, no_input}
+use Rattle.perple_core.specs.Due.{due_for_reading}
 use Rattle.perple_core.specs.Top.{RanFor, Accepts, IsStillOrRan}
 use Rattle.command_words.specs.declared.job.Command.{Command}
 use Rattle.command_words.specs.declared.job.Command.TheVariants.{Run, Replay, Convert, Demo}
-
-pub refused_from_input : (words : List (List ℕ)) (old new : View) (command : Command) (status : Status)
-    → command_of words ≡ Some command → IsInputRefusal command old new status → Refused words old new status
-refused_from_input words old new command _ is input_memory = no_memory
-refused_from_input words old new command _ is (input_reading none rose) =
-    no_reading command is none rose
-refused_from_input words old new command _ is (input_long none over) =
-    too_long command is none over
-
-pub refused_from_text : (words : List (List ℕ)) (old new : View) (command : Command) (bytes : List ℕ) (status : Status)
-    → Took words old new command bytes → (status ≡ Memory) ⊎ IsDue command bytes (Some status)
-    → Refused words old new status
-refused_from_text words old new command bytes status took (inl memory) =
-    subst (Refused words old new) (sym memory) no_memory
-refused_from_text words old new command bytes status took (inr is) = no_input status command bytes took is
 
 -- what a command did to the field, where memory ran out
 pub ran_or_still : (words : List (List ℕ)) (old new : View) (done : Closed) (command : Command) (test : LitmusTest)

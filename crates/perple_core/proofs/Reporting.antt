@@ -93,7 +93,6 @@ can_pick checked n logs c is e w few =
     let count = w.count in
     let some = is.test.some_threads in
     let most = is.test.few_threads in record {
-      few = few;
       thread = omega arith;
       threads = omega arith;
       whole = w.whole;

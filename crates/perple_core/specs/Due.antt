@@ -1,5 +1,5 @@
 -- Which refusal is due for a command and its text: this project's own order of refusals.
-use Rattle.std.specs.Prelude.{◌≡◌, ℕ, ◌≤◌, List, length, Bool, false, Some, None, ◌&&◌, nat_lt, if◌then◌else◌, MatchOption}
+use Rattle.std.specs.Prelude.{◌≡◌, ℕ, ◌≤◌, List, [], length, Bool, false, Some, None, ◌&&◌, nat_lt, if◌then◌else◌, MatchOption}
 use Rattle.std.specs.declared.option.Option.{Option}
 use Rattle.perp_base.specs.declared.limits.TheConstants.{MOST_BYTES, MOST_FRAMES}
 use Rattle.x86_subset.specs.Test.{LitmusTest}
@@ -12,13 +12,13 @@ use Rattle.command_words.specs.declared.job.Command.TheVariants.{Run, Replay, Co
 use Rattle.demo_text.specs.Demo.{demo_text_of}
 use Rattle.report_text.specs.declared.status.Over.TheVariants.{Input, Frames}
 use Rattle.report_text.specs.declared.status.Status.{Status}
-use Rattle.report_text.specs.declared.status.Status.TheVariants.{Memory, ReadFault, Limit}
-use Rattle.perp_base.specs.Bytes.{GaveAll, IsOver}
-use Rattle.perp_base.specs.Causes.{Rose}
+use Rattle.report_text.specs.declared.status.Status.TheVariants.{Limit}
+use Rattle.perp_base.specs.Bytes.{GaveAll}
 use Rattle.perple_core.specs.Texts.{asks_exhaustive, demo_options_of, frame_count_of}
 use Rattle.perp_base.specs.View.{View}
 use Rattle.program_edge.specs.Ending.{Call, Refused as RefusedCall}
 use Rattle.program_edge.specs.Form.{due_for_atoms, due_for_form}
+use Rattle.program_edge.specs.Request.{Program}
 
 -- the demo's number
 abbrev pub demo_number : Command → Option ℕ
@@ -81,13 +81,22 @@ call_of words old new = record {
   new = new;
 }
 
+-- the text of a command that comes alone: the demo's own, and for a command that should read one the empty text
+abbrev pub own_text_of : Command → List ℕ
+own_text_of (Run job) = []
+own_text_of (Replay job) = []
+own_text_of Convert = []
+own_text_of (Demo k) = demo_text_of k
+
+-- the program, whose requests are those of its calls
+abbrev pub perple_program : Program Command Status
+perple_program = record {
+  own = own_text_of;
+  due = IsDue;
+  core = λ status. status;
+  long = Limit Input;
+}
+
 -- the causes of the refusals before a run
 abbrev pub Refused : List (List ℕ) → View → View → Status → Type 0
 Refused words old new status = RefusedCall (call_of words old new) status
-
--- the causes of the refusals of reading
-pub data IsInputRefusal (command : Command) (old new : View) : Status → Type 0 where
-  no_memory : IsInputRefusal command old new Memory
-  no_reading : demo_number command ≡ None → Rose old.faults new.faults → IsInputRefusal command old new ReadFault
-  too_long : demo_number command ≡ None → IsOver old.bytes new.bytes MOST_BYTES
-      → IsInputRefusal command old new (Limit Input)

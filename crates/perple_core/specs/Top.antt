@@ -25,7 +25,7 @@ use Rattle.report_text.specs.declared.status.Status.TheVariants.{Whole, Memory, 
 use Rattle.report_text.specs.declared.status.Over.TheVariants.{Input, Threads, Locations, Instructions, Atoms, Frames}
 use Rattle.perp_base.specs.Causes.{Rose}
 use Rattle.perp_base.specs.View.{View}
-use Rattle.program_edge.specs.Ending.{Ended as EndedCall, IsStillOr, IsUsage as IsUsageOf}
+use Rattle.program_edge.specs.Ending.{Ended as EndedCall, IsOutOfMemory as OutOfMemory, IsStillOr, IsUsage as IsUsageOf}
 use Rattle.program_edge.specs.Field.{IsStill, SomeRunFits}
 use Rattle.perple_core.specs.Texts.{text_of, conversion_text_of, demo_report_of, demo_options_of, schedule_of}
 use Rattle.perple_core.specs.Due.{Took, IsDue, IsShort, call_of, due_for_reading, demo_number}
@@ -102,6 +102,11 @@ RanFor (Demo k) test done = ⊥
 abbrev pub Ended : List (List ℕ) → View → View → Closed → View → View → Type 0 → Status → Type 0
 Ended words old new done out_old out_new untouched status = EndedCall (call_of words old new)
     (Answers words old new done) (Ran words old new done) done out_old out_new untouched status
+
+-- Where memory ran out no step was made on the field, or the command was a run whose text was accepted, and some run
+-- fits the field.
+abbrev pub IsOutOfMemory : List (List ℕ) → View → View → Closed → Status → Type 0
+IsOutOfMemory words old new done status = OutOfMemory (λ s. s) done (Ran words old new done) status
 
 -- the text that a command is to take: the demo's own, or what the source tells that it has left
 abbrev pub Told : Command → View → List ℕ → Type 0

@@ -1,63 +1,142 @@
-//! The answer to the words and the input, before anything is written: a text or a refusal, and the closed field.
-ghost use Rattle.std.specs.Prelude.{◌≡◌, ◌⊎◌, IfOk, IfErr, OnErr, string_bytes, None};
-ghost use Rattle.command_words.specs.Words.{command_of};
-ghost use Rattle.litmus_reader.specs.Answer.{Accepted};
+//! The answer to a request, before any of it is written: a text or a refusal, and the closed field.
+ghost use Rattle.std.specs.Prelude.{◌≡◌, ◌≤◌, length, IfOk, IfErr, string_bytes};
 ghost use Rattle.report_text.specs.Status.{HasKind};
-ghost use Rattle.program_edge.specs.Field.{IsStill};
-ghost use Rattle.program_edge.specs.View.{bytes_of};
-ghost use Rattle.perple_core.specs.Due.{Refused, due_for_reading};
-ghost use Rattle.perple_core.specs.Top.{IsDemo, IsNamedInAscii, IsText, Answers, RanFor, IsStillOrRan};
+ghost use Rattle.program_edge.specs.Ending.{IsStillOr};
+ghost use Rattle.program_edge.specs.Request.{AnswersDue, HasInputWithin, IsComplete, IsRefusal, IsRefusalOfText, status_of_reading};
+ghost use Rattle.perple_core.specs.Due.{own_text_of, perple_program};
+ghost use Rattle.perple_core.specs.Answering.{AnswerFits, AnswerReads, AnswerTells, Answers, IsAnswer, IsMade, Leaves, MovesInRuns};
+ghost use Rattle.perp_base.specs.declared.limits.TheConstants.{MOST_BYTES};
 
-use crate::ask::ask;
+use crate::accept::{accept, own_text};
 use crate::work::work;
-use perp_base::Source;
+use command_words::Command;
+use perp_base::ReadError;
 use perp_loop::Gate;
-use program_edge::Answered;
-use report_text::Status;
+use program_edge::{Answered, Request};
+use report_text::{Over, Status};
 use std::alloc::Global;
 use std::thread::Threads;
 use tso_words::Field;
 
-/// Answers the words.
-pub fn answer<R: Threads + Sync, S: Source, G: Gate>(
+fn reading_status(why: ReadError) -> Status
+    ensures value { result ≡ status_of_reading perple_program why }
+    ensures kind { HasKind result }
+{
+    match why {
+        ReadError::Fault => Status::ReadFault,
+        ReadError::TooLong => Status::Limit(Over::Input),
+        ReadError::Memory => Status::Memory,
+    }
+}
+
+/// The answer to a command on a text.
+fn answer_command<R: Threads + Sync, G: Gate>(
     rt: &R,
     alloc: Global,
-    words: &[String],
-    source: &mut S,
+    command: &Command,
+    text: &[u8],
+    field: Field,
+    gate: &G,
+) -> Answered<Status>
+    requires short { length text.now ≤ MOST_BYTES }
+    ensures identity { result.done.identity ≡ field }
+    ensures right { IfOk result.text (λ answer. IsAnswer command.now text.now result.done (string_bytes answer)) }
+    ensures refused { IfErr result.text (IsRefusalOfText perple_program command.now text.now) }
+    ensures left { IfErr result.text (IsStillOr (λ s. s) result.done (IsMade command.now text.now result.done)) }
+    ensures kind { IfErr result.text HasKind }
+{
+    let checked = match accept(alloc, command, text) {
+        Ok(checked) => checked,
+        Err(status) => return Answered::still(Err(status), field),
+    };
+    let Answered { text, done } = work(rt, alloc, command, &checked, field, gate);
+    match text {
+        Ok(text) => Answered {
+            text: Ok(text),
+            done,
+        },
+        Err(_) => Answered {
+            text: Err(Status::Memory),
+            done,
+        },
+    }
+}
+
+/// The answer to a command that comes alone.
+fn answer_alone<R: Threads + Sync, G: Gate>(
+    rt: &R,
+    alloc: Global,
+    command: &Command,
     field: Field,
     gate: &G,
 ) -> Answered<Status>
     ensures identity { result.done.identity ≡ field }
-    ensures ok { IfOk result.text (λ text. Answers (bytes_of words.now) (S.seen source.old)
-        (S.seen source.new) result.done (string_bytes text)) }
-    ensures err { IfErr result.text (Refused (bytes_of words.now) (S.seen source.old) (S.seen source.new)) }
-    ensures done { IfErr result.text (IsStillOrRan (bytes_of words.now) (S.seen source.old)
-        (S.seen source.new) result.done) }
+    ensures right { IfOk result.text (λ answer. IsAnswer command.now (own_text_of command.now) result.done (string_bytes answer)) }
+    ensures refused { IfErr result.text (IsRefusalOfText perple_program command.now (own_text_of command.now)) }
+    ensures left { IfErr result.text (IsStillOr (λ s. s) result.done (IsMade command.now (own_text_of command.now) result.done)) }
     ensures kind { IfErr result.text HasKind }
-    ensures demo { IsDemo (bytes_of words.now) → source.new ≡ source.old }
-    ensures misused { command_of (bytes_of words.now) ≡ None → source.new ≡ source.old }
 {
-    match ask(alloc, words, source) {
-        Err(status) => Answered::still(Err(status), field),
-        Ok(asked) => {
-            let Answered { text, done } = work(
-                rt,
-                alloc,
-                &asked.command,
-                &asked.checked,
-                field,
-                gate,
-            );
-            match text {
-                Ok(text) => Answered {
-                    text: Ok(text),
-                    done,
-                },
-                Err(_) => Answered {
-                    text: Err(Status::Memory),
-                    done,
-                },
-            }
-        }
+    match own_text(alloc, command) {
+        Ok(text) => answer_command(rt, alloc, command, &text, field, gate),
+        Err(_) => Answered::still(Err(Status::Memory), field),
     }
+}
+
+/// The answer to a request.
+fn answer_request<R: Threads + Sync, G: Gate>(
+    rt: &R,
+    alloc: Global,
+    request: &Request<Command>,
+    field: Field,
+    gate: &G,
+) -> Answered<Status>
+    requires within { HasInputWithin MOST_BYTES request.now }
+    ensures identity { result.done.identity ≡ field }
+    ensures right { IfOk result.text (λ answer. Answers request.now result.done (string_bytes answer)) }
+    ensures refused { IfErr result.text (IsRefusal perple_program request.now) }
+    ensures left { IfErr result.text (Leaves request.now result.done) }
+    ensures kind { IfErr result.text HasKind }
+{
+    match request {
+        Request::Misused => Answered::still(Err(Status::Usage), field),
+        Request::NoMemory => Answered::still(Err(Status::Memory), field),
+        Request::Alone(command) => answer_alone(rt, alloc, command, field, gate),
+        Request::Given(command, Ok(text)) => {
+            answer_command(rt, alloc, command, text, field, gate)
+        }
+        Request::Given(_, Err(why)) => Answered::still(Err(reading_status(*why)), field),
+    }
+}
+
+/// The text that answers a request, or its refusal, and the closed field. Nothing is read or written.
+///
+/// The threads of `run` make all their steps on `field`, which is new by its type, and call `gate` before each
+/// iteration. Each call returns.
+pub fn answer_text<R: Threads + Sync, G: Gate>(
+    rt: &R,
+    alloc: Global,
+    request: &Request<Command>,
+    field: Field,
+    gate: &G,
+) -> Answered<Status>
+    requires within { HasInputWithin MOST_BYTES request.now }
+
+    // The headline, for `run`: the bytes that were read, what the threads did on the field, and the text.
+    ensures reads { AnswerReads request.now result.text }
+    ensures fits { AnswerFits request.now result.done result.text }
+    ensures tells { AnswerTells request.now result.done result.text }
+    ensures identity { result.done.identity ≡ field }
+
+    // The right answer, each refusal with its cause, and each cause with its refusal.
+    ensures right { IfOk result.text (λ answer. Answers request.now result.done (string_bytes answer)) }
+    ensures refused { IfErr result.text (IsRefusal perple_program request.now) }
+    ensures due { AnswersDue perple_program request.now result.text }
+    ensures complete { IsComplete perple_program request.now result.text }
+    ensures kind { IfErr result.text HasKind }
+
+    // What is left on the field.
+    ensures left { IfErr result.text (Leaves request.now result.done) }
+    ensures still { MovesInRuns request.now result.done }
+{
+    answer_request(rt, alloc, request, field, gate)
 }

@@ -1,8 +1,9 @@
 //! Calls of the program over memory sources and sinks, row by row.
 mod meeting;
+mod refusals;
+mod replays;
 
 use super::*;
-use demo_text::demo_text;
 use perp_base::{MemSink, MemSource};
 use std::alloc::Global;
 use std::process::Abort;
@@ -39,7 +40,7 @@ const DIY: &str =
     "X86 SB\n\"Fre PodWR Fre PodWR\"\nPrefetch=0:x=F,0:y=T,1:y=F,1:x=T\nCom=Fr Fr\nOrig=Fre PodWR Fre PodWR\n{\n}\n P0          | P1          ;\n MOV [x],$1  | MOV [y],$1  ;\n             |             ;\n MOV EAX,[y] | MOV EAX,[x] ;\nlocations [x; y;]\nexists (0:EAX=0 /\\ 1:EAX=0)\n";
 
 /// The words, the input, the number of the status, and what is written to both sinks.
-const ROWS: [(&str, &str, u8, &str, &str); 23] = [
+const ROWS: [(&str, &str, u8, &str, &str); 24] = [
     (
         "replay 1 --rate 0 --count both",
         SB,
@@ -80,6 +81,20 @@ const ROWS: [(&str, &str, u8, &str, &str); 23] = [
         SBF,
         0,
         "Test SBF\nThreads 2\nIterations 300\nCondition ~exists 2\nFrames 90000\nExhaustive 0\nSeen no\n",
+        "",
+    ),
+    (
+        "run 3",
+        MP,
+        0,
+        "Test MP\nThreads 2\nIterations 3\nCondition exists 2\nFrames 9\nExhaustive 0\nSeen no\n",
+        "",
+    ),
+    (
+        "run 3",
+        LB,
+        0,
+        "Test LB\nThreads 2\nIterations 3\nCondition exists 2\nFrames 9\nExhaustive 0\nSeen no\n",
         "",
     ),
     (
@@ -140,6 +155,13 @@ const ROWS: [(&str, &str, u8, &str, &str); 23] = [
     ),
     (
         "convert",
+        SB,
+        0,
+        "Test SB\nThreads 2\nStore P0 0 x value 1*n+1\nStore P1 0 y value 1*n+1\nRead P0 1 y column 0\nRead P1 1 x column 0\nAtom 1 fr P0 column 0 from P1: value < 1*m+1\nAtom 2 fr P1 column 0 from P0: value < 1*m+1\n",
+        "",
+    ),
+    (
+        "convert",
         MP,
         0,
         "Test MP\nThreads 2\nStore P0 0 x value 1*n+1\nStore P0 1 y value 1*n+1\nRead P1 0 y column 0\nRead P1 1 x column 1\nAtom 1 exact P1 column 0 from P0: value = 1*m+1\nAtom 2 fr P1 column 1 from P0: value < 1*m+1\n",
@@ -151,13 +173,6 @@ const ROWS: [(&str, &str, u8, &str, &str); 23] = [
         0,
         "Test OWN\nThreads 2\nStore P0 0 x value 1*n+1\nStore P1 0 y value 1*n+1\nRead P0 1 x column 0\nRead P1 1 y column 0\nAtom 1 rf P0 column 0 from P0: value >= 1*m+1, value mod 1 = 0\nAtom 2 rf P1 column 0 from P1: value >= 1*m+1, value mod 1 = 0\n",
         "",
-    ),
-    (
-        "run 1",
-        "X86 W2\n{ }\n P0 | P1 | P2 ;\n MOV [x],$1 | MOV [x],$2 | MOV EAX,[x] ;\nexists (2:EAX=0)\n",
-        6,
-        "",
-        "perple: atom 1: kind 7 SeveralWriters\n",
     ),
     ("run 1", "", 5, "", "perple: line 1: kind 1 NotX86\n"),
     (
@@ -187,13 +202,6 @@ const ROWS: [(&str, &str, u8, &str, &str); 23] = [
         0,
         "Test SB\nThreads 2\nIterations 1\nCondition exists 4\nFrames 1\nExhaustive 1\nHeuristic 1\nHit 0 0\nSeen yes\n",
         "",
-    ),
-    (
-        "walk 5",
-        SB,
-        2,
-        "",
-        "perple: usage: perple COMMAND [N] [OPTIONS]\n",
     ),
 ];
 
@@ -289,55 +297,66 @@ fn rows_are_answered(rt: HostRuntime) -> Result<(), Fail> {
     Ok(())
 }
 
-/// The words, the input, and how the report begins, of which the rest is that of the run: also for each line in whose
-/// place the format takes another one.
-const STARTS: [(&str, &str, &str); 7] = [
+/// SB with this text in the place of its line of this number, or after its last line; or, where the number is 0, the
+/// text itself.
+fn changed(alloc: Global, at: usize, text: &str) -> Result<Vec<u8>, Fail> {
+    if at == 0 {
+        return Ok(Vec::from_slice(alloc, text.as_bytes())?);
+    }
+    let mut whole = Vec::new(alloc);
+    for (i, line) in SB.split('\n').enumerate() {
+        let line = if i + 1 == at { text } else { line };
+        whole.extend_from_slice(line.as_bytes())?;
+        if !line.is_empty() {
+            whole.push(b'\n')?;
+        }
+    }
+    Ok(whole)
+}
+
+const ONCE: &str = "Test SB\nThreads 2\nIterations 1\nCondition exists 2\nFrames 1\nExhaustive ";
+
+/// The words, which line of SB stands otherwise, or 0 where the text stands whole, the new text, and how the report
+/// begins, of which the rest is that of the run.
+const STARTS: [(&str, usize, &str, &str); 8] = [
     (
         "run 1000",
+        0,
         DIY,
         "Test SB\nThreads 2\nIterations 1000\nCondition exists 2\nFrames 1000000\nExhaustive ",
     ),
     (
         "run 100000 --count heuristic",
+        0,
         DIY,
         "Test SB\nThreads 2\nIterations 100000\nCondition exists 2\nHeuristic ",
     ),
+    ("run 1", 2, "{ int x=0; [y]=0; 0:EAX=0; }", ONCE),
+    ("run 1", 4, "mov [x],1 | Mov [y],$1 ;", ONCE),
+    ("run 1", 6, "exists 0:EAX=0 /\\ (1:eax=0)", ONCE),
+    ("run 1", 6, "exists (0:EAX=0 \\/ 1:EAX=0)", ONCE),
     (
         "run 1",
-        "X86 SB\n{ int x=0; [y]=0; 0:EAX=0; }\n P0 | P1 ;\n MOV [x],$1 | MOV [y],$1 ;\n MOV EAX,[y] | MOV EAX,[x] ;\nexists (0:EAX=0 /\\ 1:EAX=0)\n",
-        "Test SB\nThreads 2\nIterations 1\nCondition exists 2\nFrames 1\nExhaustive ",
+        6,
+        "exists 0:EAX=0 \\/ 0:EAX=0 \\/ 0:EAX=0 \\/ 0:EAX=0 \\/ 0:EAX=0 \\/ 0:EAX=0 \\/ 0:EAX=0 \\/ 0:EAX=0",
+        "Test SB\nThreads 2\nIterations 1\nCondition exists 8\nFrames 1\nExhaustive ",
     ),
-    (
-        "run 1",
-        "X86 SB\n{ x=0; y=0; }\n P0 | P1 ;\nmov [x],1 | Mov [y],$1 ;\n MOV EAX,[y] | MOV EAX,[x] ;\nexists (0:EAX=0 /\\ 1:EAX=0)\n",
-        "Test SB\nThreads 2\nIterations 1\nCondition exists 2\nFrames 1\nExhaustive ",
-    ),
-    (
-        "run 1",
-        "X86 SB\n{ x=0; y=0; }\n P0 | P1 ;\n MOV [x],$1 | MOV [y],$1 ;\n MOV EAX,[y] | MOV EAX,[x] ;\nexists 0:EAX=0 /\\ (1:eax=0)\n",
-        "Test SB\nThreads 2\nIterations 1\nCondition exists 2\nFrames 1\nExhaustive ",
-    ),
-    (
-        "run 1",
-        "X86 SB\n{ x=0; y=0; }\n P0 | P1 ;\n MOV [x],$1 | MOV [y],$1 ;\n MOV EAX,[y] | MOV EAX,[x] ;\nexists (0:EAX=0 \\/ 1:EAX=0)\n",
-        "Test SB\nThreads 2\nIterations 1\nCondition exists 2\nFrames 1\nExhaustive ",
-    ),
-    (
-        "run 1",
-        "X86 SB\n{ x=0; y=0; }\n P0 | P1 ;\n MOV [x],$1 | MOV [y],$1 ;\n MOV EAX,[y] | MOV EAX,[x] ;\nexists (0:EAX=0 /\\ 1:EAX=0)\n(* end *)\n",
-        "Test SB\nThreads 2\nIterations 1\nCondition exists 2\nFrames 1\nExhaustive ",
-    ),
+    ("run 1", 7, "(* end *)", ONCE),
 ];
+
+/// The call ended so, its output begins so, or is empty where that is, and this is the line.
+fn assert_begun(rt: &impl Abort, ran: &Ran, at: &str, status: u8, front: &str, err: &str) {
+    let begun = ran.out.starts_with(front.as_bytes()) && ran.out.is_empty() == front.is_empty();
+    assert_eq!(rt; (ran.status.number(), begun), (status, true), "at {at}");
+    assert_eq!(rt; ran.err.as_slice(), err.as_bytes(), "line at {at}");
+}
 
 #[test]
 fn reports_begin_with_what_was_asked(rt: HostRuntime) -> Result<(), Fail> {
     let alloc = rt.alloc();
-    for (line, text, front) in STARTS {
-        let ran = call(&rt, alloc, line, text.as_bytes())?;
-        assert!(rt;
-            ran.status.number() == 0 && ran.out.starts_with(front.as_bytes()),
-            "{line} at {text}"
-        );
+    for (line, at, text, front) in STARTS {
+        let ran = call(&rt, alloc, line, &changed(alloc, at, text)?)?;
+        assert_begun(&rt, &ran, text, 0, front, "");
     }
     Ok(())
 }
@@ -381,11 +400,23 @@ fn prefixes_are_refused(rt: HostRuntime) -> Result<(), Fail> {
     Ok(())
 }
 
+/// How many bytes SB has with a comment after it, the number of the status, how the output begins, and the line.
+const LONG: [(usize, u8, &str, &str); 2] = [
+    (65_536, 0, ONCE, ""),
+    (65_537, 7, "", "perple: limit input 65536\n"),
+];
+
 #[test]
-fn a_long_text_is_refused(rt: HostRuntime) -> Result<(), Fail> {
-    let long = [b' '; 65537];
-    let ran = call(&rt, rt.alloc(), "run 1", &long)?;
-    assert_ended(&rt, &ran, "blanks", 7, b"", "perple: limit input 65536\n");
+fn long_texts_are_refused(rt: HostRuntime) -> Result<(), Fail> {
+    let alloc = rt.alloc();
+    for (len, status, front, err) in LONG {
+        let mut input = Vec::from_slice(alloc, SB.as_bytes())?;
+        input.extend_from_slice(b"(*")?;
+        input.resize(len - 2, b' ')?;
+        input.extend_from_slice(b"*)")?;
+        let ran = call(&rt, alloc, "run 1", &input)?;
+        assert_begun(&rt, &ran, "a long text", status, front, err);
+    }
     Ok(())
 }
 
@@ -493,26 +524,6 @@ fn calls_leave_a_field(rt: HostRuntime) -> Result<(), Fail> {
         let ran = call_at(&rt, alloc, line, text.as_bytes(), failing, &NoGate)?;
         assert_ended(&rt, &ran, line, status, out.as_bytes(), err);
         assert_eq!(rt; ran.words, words, "field at {line}");
-    }
-    Ok(())
-}
-
-/// A demo gives the same bytes each time: its number, and what the replay that it stands for writes.
-#[test]
-fn a_demo_is_a_replay(rt: HostRuntime) -> Result<(), Fail> {
-    let alloc = rt.alloc();
-    let text = demo_text(alloc, 7)?;
-    let replay = call(
-        &rt,
-        alloc,
-        "replay 60 --seed 7 --count both --order 7",
-        &text,
-    )?;
-    let mut want = Vec::from_slice(alloc, b"Demo 7\n")?;
-    want.extend_from_slice(&replay.out)?;
-    for _ in 0..2 {
-        let demo = call(&rt, alloc, "demo 7", b"")?;
-        assert_ended(&rt, &demo, "demo 7", 0, &want, "");
     }
     Ok(())
 }

@@ -1,5 +1,6 @@
-pub mod View
-pub mod Form
-pub mod Field
 pub mod Ending
+pub mod Field
+pub mod Form
+pub mod Number
 pub mod Request
+pub mod View

@@ -9,22 +9,26 @@
 //! by `HasRunOn`); where memory ran out they did nothing (`still`). A field on which nothing is run is closed by
 //! `close_unused`. A `Request` is what the words and the source ask of a program, with the bytes that were read by
 //! `input_of`; what is said of its answer in `specs/Request` asks nothing of a source or a sink. An `Answered` is a
-//! text, or why there is none, with the closed field. `words_of` gives the words of a program, or the number with which
-//! it ends where it gets none.
+//! text, or why there is none, with the closed field. `words_of` gives the words of a program, or says why it gets none.
+//! `ending` is the number with which a program ends: that of its call's status, or that of why the call was not made.
 #![tactic(auto)]
 
 mod answered;
 mod closing;
+mod numbered;
 mod reading;
 mod request;
 mod running;
+mod unmade;
 mod words;
 mod writing;
 
 pub use answered::{Answered, Outcome};
 pub use closing::close_unused;
+pub use numbered::{Numbered, ending};
 pub use reading::{check_test, read_test};
 pub use request::{Request, input_of};
 pub use running::{Ran, run_test};
-pub use words::{NO_MEMORY, NO_WORDS, words_of};
+pub use unmade::Unmade;
+pub use words::words_of;
 pub use writing::{deliver, put_line};

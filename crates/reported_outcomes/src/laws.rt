@@ -1,5 +1,6 @@
-//! What `run` and `replay` report.
+//! What `run` and `replay` report, and what `show` and `verdict` tell.
 ghost use Rattle.reported_outcomes.specs.Laws.{PerpleReportsWhatIsAllowed, RunsReportWhatIsAllowed};
+ghost use Rattle.reported_outcomes.specs.Told.{ForbiddenIsImpossible, ShownIsAllowed};
 
 /// The text of a run is the report that nothing was seen, or x86-TSO allows the condition.
 pub fn runs_report_what_is_allowed()
@@ -10,4 +11,14 @@ pub fn runs_report_what_is_allowed()
 /// condition.
 pub fn perple_reports_what_is_allowed()
     ensures { PerpleReportsWhatIsAllowed }
+{}
+
+/// What the clause `whole` of `tool` says of `show`: where it writes a run, x86-TSO allows the condition.
+pub fn shown_is_allowed()
+    ensures { ShownIsAllowed }
+{}
+
+/// And of `show` and `verdict`: where they write Forbidden, x86-TSO does not allow it, and no run has a hit.
+pub fn forbidden_is_impossible()
+    ensures { ForbiddenIsImpossible }
 {}

@@ -3,18 +3,19 @@ ghost use Rattle.std.specs.Prelude.{◌≡◌, ℕ, ◌+◌, ◌<◌, ◌≤◌,
 ghost use Rattle.store_buffer.specs.Contents.{newest_value};
 
 use crate::entry::Entry;
+use arrayvec::ArrayVec;
 use perp_base::MOST_WRITES;
 use std::marker::Model;
 
 /// The writes of one thread that memory has not seen yet, oldest first; at most as many as its capacity, which is 1 to
-/// 16. They stand in a ring of slots, so that no write moves when the oldest one leaves.
+/// 16. They stand in a ring over the slots of an `ArrayVec`, so that no write moves when the oldest one leaves.
 #[derive(Drop)]
 pub struct Buffer {
     capacity: u32,
     /// The slot of the oldest write, and how many writes stand from there on; after the last slot comes the first.
     oldest: usize,
     len: usize,
-    slots: [Entry; MOST_WRITES],
+    slots: ArrayVec<Entry, MOST_WRITES>,
 }
 
 impl Model for Buffer {
@@ -24,9 +25,9 @@ impl Model for Buffer {
 
     ghost Value = { Contents };
 
-    ghost view = { λ a. record { capacity = a.capacity; entries = window a.oldest a.len a.slots } };
+    ghost view = { λ a. record { capacity = a.capacity; entries = window a.oldest a.len a.slots.items } };
 
-    ghost invariant = { λ a. IsRing a.capacity a.oldest a.len a.slots };
+    ghost invariant = { λ a. IsRing a.capacity a.oldest a.len a.slots.items };
 }
 
 impl Buffer {
@@ -40,7 +41,7 @@ impl Buffer {
             capacity,
             oldest: 0,
             len: 0,
-            slots: [Entry::default(); MOST_WRITES],
+            slots: ArrayVec::from([Entry::default(); MOST_WRITES]),
         }
     }
 
@@ -53,7 +54,7 @@ impl Buffer {
         ensures given_back { IfErr result (λ e. e ≡ entry) }
     {
         if self.len < self.capacity as usize {
-            self.slots[(self.oldest + self.len) % MOST_WRITES] = entry;
+            self.slots.as_mut_slice()[(self.oldest + self.len) % MOST_WRITES] = entry;
             self.len += 1;
             Ok(())
         } else {
@@ -66,7 +67,7 @@ impl Buffer {
         requires there { i < length self.now.entries }
         ensures { slice_get self.now.entries i ≡ Some result }
     {
-        self.slots[(self.oldest + i) % MOST_WRITES]
+        self.slots.as_slice()[(self.oldest + i) % MOST_WRITES]
     }
 
     /// The oldest write; None where the buffer is empty.
@@ -76,7 +77,7 @@ impl Buffer {
         if self.len == 0 {
             None
         } else {
-            Some(self.slots[self.oldest])
+            Some(self.slots.as_slice()[self.oldest])
         }
     }
 

@@ -16,8 +16,9 @@ use Rattle.run_text.specs.Events.{events_of}
 use Rattle.run_text.specs.Sections.{Split}
 use Rattle.program_edge.specs.Form.{due_for_atoms, due_for_form, over_of}
 use Rattle.tool_core.specs.Due.{IsDue, IsDueForParts, IsDueForText, due_for_events, due_for_lines, due_for_reading, due_for_test, due_for_witness, due_for_writers, first_due, most_events_of, parts_of, section_logs}
+use Rattle.tool_core.specs.Top.{AsksForKinds}
 use Rattle.tool_core.specs.declared.words.Command.{Command}
-use Rattle.tool_core.specs.declared.words.Command.TheVariants.{Judge, Order, Witness, Verdict, Show, Skew}
+use Rattle.tool_core.specs.declared.words.Command.TheVariants.{Judge, Order, Witness, Verdict, Show, Faithful, Skew}
 use Rattle.tool_core.specs.declared.status.ToolStatus.{ToolStatus}
 use Rattle.tool_core.specs.declared.status.ToolStatus.TheVariants.{Core, NoSection, BadLine, TooLong, Events, SeveralWriters}
 
@@ -60,7 +61,7 @@ IsOfInput command (Core Usage) = ⊥
 IsOfInput command (Core ReadFault) = ⊥
 IsOfInput command (Core WriteFault) = ⊥
 IsOfInput command (Core (NotLitmus kind line)) = Unit {0}
-IsOfInput command (Core (OutsideProfile atom kind)) = (command ≡ Verdict) ⊎ (command ≡ Show)
+IsOfInput command (Core (OutsideProfile atom kind)) = AsksForKinds command
 IsOfInput command (Core (Limit over)) = IsOfText over
 IsOfInput command NoSection = Unit {0}
 IsOfInput command (BadLine line) = Unit {0}
@@ -100,7 +101,7 @@ of_witness command test n =
     of_first command (due_for_writers test) (due_for_events test n)
     (of_location command _) (of_count command (nat_lt 1000000 (most_events_of test n)))
 
-of_profile : (command : Command) (profile : Profile) → (command ≡ Verdict) ⊎ (command ≡ Show)
+of_profile : (command : Command) (profile : Profile) → AsksForKinds command
     → Gives command (option_map Core (due_for_atoms profile))
 of_profile command inside counts = of_none command
 of_profile command (outside atom kind) counts = λ s e. some_of command (Core (OutsideProfile atom _)) s e counts
@@ -111,8 +112,9 @@ of_test Order test parts =
     of_first Order (due_for_witness test parts.iterations) (due_for_lines (section_logs test parts))
     (of_witness Order test parts.iterations) (of_lines Order (section_logs test parts))
 of_test (Witness n) test parts = of_witness (Witness n) test n
-of_test Verdict test parts = of_profile Verdict (profile_of test) (inl refl)
-of_test Show test parts = of_profile Show (profile_of test) (inr refl)
+of_test Verdict test parts = of_profile Verdict (profile_of test) tt
+of_test Show test parts = of_profile Show (profile_of test) tt
+of_test Faithful test parts = of_profile Faithful (profile_of test) tt
 of_test (Skew n) test parts = of_none (Skew n)
 
 of_shape : (shape : Shape) → IsOfText (over_of shape)

@@ -17,7 +17,7 @@ use Rattle.tool_core.specs.Due.{IsDue, Took, all_litmus, call_of}
 use Rattle.tool_core.specs.Texts.{options_of}
 use Rattle.tool_core.specs.Top.{Answers, Ended, IsAfterReading, IsAnswer, IsField, IsStillCommand, IsText, RanFor, ReadsToEnd, RunFits, SuitsCommand, Told, WritesPart, WritesWhole, iterations_run}
 use Rattle.tool_core.specs.declared.words.Command.{Command}
-use Rattle.tool_core.specs.declared.words.Command.TheVariants.{Judge, Order, Witness, Verdict, Show, Skew}
+use Rattle.tool_core.specs.declared.words.Command.TheVariants.{Judge, Order, Witness, Verdict, Show, Faithful, Skew}
 use Rattle.tool_core.specs.declared.status.ToolStatus.{ToolStatus}
 use Rattle.tool_core.specs.declared.status.ToolStatus.TheVariants.{Core, TooLong}
 use Rattle.tool_core.proofs.Dues.{IsOfInput, due_for_text, of_input, one_due, test_is_due}
@@ -69,12 +69,6 @@ laws words old new done = record {
 
 -- ---- refusals that are not each command's
 
-counts_atoms : (words : List (List ℕ)) (command : Command) → command_of words ≡ Some command
-    → (command ≡ Verdict) ⊎ (command ≡ Show)
-    → (command_of words ≡ Some Verdict) ⊎ (command_of words ≡ Some Show)
-counts_atoms words command is (inl verdict) = inl (is ∙ ap Some verdict)
-counts_atoms words command is (inr show) = inr (is ∙ ap Some show)
-
 -- a refusal that is no text was due for what was taken
 of_taken : (command : Command) (input : List ℕ) (status is : ToolStatus) → status ≡ is → (HasText Core is → ⊥)
     → HasText Core status ⊎ IsDue command input (Some status) → IsOfInput command is
@@ -90,6 +84,7 @@ still_text Order test parts done text still right = right.0
 still_text (Witness n) test parts done text still right = absurd (cc)
 still_text Verdict test parts done text still right = right.0
 still_text Show test parts done text still right = right.0
+still_text Faithful test parts done text still right = right.0
 still_text (Skew n) test parts done text still right = absurd (cc)
 
 pub still_ran : (command : Command) (test : LitmusTest) (done : Closed) → IsStillCommand command → RanFor command test done
@@ -99,12 +94,13 @@ still_ran Order test done still ran = ran
 still_ran (Witness n) test done still ran = cc
 still_ran Verdict test done still ran = ran
 still_ran Show test done still ran = ran
+still_ran Faithful test done still ran = ran
 still_ran (Skew n) test done still ran = cc
 
 -- ---- runs
 
 -- without a section the whole input is what reads as the test
-whole_test : (input : List ℕ) (parts : Split) (test read : LitmusTest) → Some (all_litmus input) ≡ Some parts
+pub whole_test : (input : List ℕ) (parts : Split) (test read : LitmusTest) → Some (all_litmus input) ≡ Some parts
     → Reads parts.litmus (Accepted test)
     → Reads input (Accepted read) → test ≡ read
 whole_test input parts test read e reading reads =
@@ -130,6 +126,7 @@ fits_by (Witness m) n input text read done e reads a =
     a.right.some_run
 fits_by Verdict n input text read done e reads a = absurd (cc)
 fits_by Show n input text read done e reads a = absurd (cc)
+fits_by Faithful n input text read done e reads a = absurd (cc)
 fits_by (Skew m) n input text read done e reads a =
     fits_for m n a.test read done e (whole_test input a.parts a.test read a.accepts.parts_are a.accepts.reading reads)
     a.right.some_run
@@ -147,7 +144,7 @@ module _ {words : List (List ℕ)} {old new : View} {done : Closed} {out_old out
         let is = Core (OutsideProfile atom kind) in
         let input = is_of_input Core (λ s. s ≡ is) (λ e. cc) (λ e. cc) (λ e. cc) is refl in
         let t = taken_of here (λ s. s ≡ is) (λ e. cc) (λ e. cc) (λ e. cc) (λ e. cc) status ended e in
-        counts_atoms words t.0 t.2.command_is (of_taken t.0 t.1 status is e input.text t.3);
+        (t.0, t.2.command_is, of_taken t.0 t.1 status is e input.text t.3);
     frames = λ e.
         let is = Core (Limit Frames) in
         let input = is_of_input Core (λ s. s ≡ is) (λ e. cc) (λ e. cc) (λ e. cc) is refl in

@@ -1,8 +1,10 @@
 pub mod Dues
 pub mod Endings
 pub mod Answering
+pub mod Ruling
 pub mod Requests
 pub mod VerdictSaid
+pub mod FaithSaid
 pub mod ShowingSaid
 pub mod SkewOfRuns
 pub mod WitnessOfRuns

@@ -11,6 +11,8 @@ use Rattle.verdict.specs.Edges.{edge_in, is_cycle_of}
 use Rattle.verdict.specs.Verdicts.{HasCycle}
 use Rattle.decision.specs.Shown.{IsOrdered, Shows}
 use Rattle.decision.proofs.Deciding.{cycle_is_not_shown_lem}
+use Rattle.litmus_outcomes.proofs.Possible.{once_is_the_test_lem}
+use Rattle.tool_core.proofs.Ruling.{ruled_by_reasons}
 use Rattle.tool_core.specs.declared.reasons.Reason.{Reason}
 use Rattle.tool_core.specs.declared.reasons.Unshown.{Unshown}
 use Rattle.tool_core.specs.declared.reasons.Unshown.TheVariants.{Forbidden, Undecided}
@@ -25,6 +27,7 @@ shown_by checked c events is ordered shows = record {
   none = λ cycle. false_from_ne_true (is_cycle_of (edge_in checked c) cycle)
       (λ k. cycle_is_not_shown_lem checked c (map event_of events) is (cycle, k) shows);
   shows = shows;
+  possible = (once_is_the_test_lem checked c is).0 (map event_of events, shows);
 }
 
 none_at : (checked : CheckedTest) (c : ℕ) → NoneIsShown checked c → (IsOrdered checked c → HasCycle checked c)
@@ -86,17 +89,19 @@ first_undecided checked c reasons there before here =
     record { there = there; is_open = here; earlier = reason_at checked c reasons before }
 
 showing_on : (checked : CheckedTest) (said : Unshown) (text : List ℕ)
-    → NoneIsShown checked (length checked.test.ends) → IsUnshown checked said → text ≡ unshown_text_of said
-    → IsShowingOn checked text
-showing_on checked (Forbidden reasons) text none is e = forbidden reasons.items is e
-showing_on checked (Undecided c) text none is e = undecided c is none e
+    → IsChecked checked → NoneIsShown checked (length checked.test.ends) → IsUnshown checked said
+    → text ≡ unshown_text_of said → IsShowingOn checked text
+showing_on checked (Forbidden reasons) text h none is e =
+    forbidden reasons.items is
+    (ruled_by_reasons checked h (reason_at checked (length checked.test.ends) reasons.items is)) e
+showing_on checked (Undecided c) text h none is e = undecided c is none e
 
 -- the text where no run is shown
 pub unshown_said : (checked : CheckedTest) (said : Unshown) (r : Result (String Global) NoMemory)
     → IsChecked checked → NoneIsShown checked (length checked.test.ends) → IsUnshown checked said
     → IfOk r (λ t. string_bytes t ≡ unshown_text_of said) → IfOk r (λ t. IsShowingText checked.test (string_bytes t))
 unshown_said checked said (Ok t) is none right e =
-    record { kinds = checked.kinds; are = is.kinds; is = showing_on checked said (string_bytes t) none right e }
+    record { kinds = checked.kinds; are = is.kinds; is = showing_on checked said (string_bytes t) is none right e }
 unshown_said checked said (Err e) is none right _ = tt
 
 -- the text of a run that is shown

@@ -21,7 +21,7 @@ use Rattle.program_edge.specs.Form.{due_for_atoms, due_for_form}
 use Rattle.program_edge.specs.Request.{Program}
 use Rattle.tool_core.specs.Words.{command_of}
 use Rattle.tool_core.specs.declared.words.Command.{Command}
-use Rattle.tool_core.specs.declared.words.Command.TheVariants.{Judge, Order, Witness, Verdict, Show, Skew}
+use Rattle.tool_core.specs.declared.words.Command.TheVariants.{Judge, Order, Witness, Verdict, Show, Faithful, Skew}
 use Rattle.tool_core.specs.declared.status.ToolStatus.{ToolStatus}
 use Rattle.tool_core.specs.declared.status.ToolStatus.TheVariants.{Core, NoSection, BadLine, TooLong, Events, SeveralWriters}
 
@@ -34,6 +34,7 @@ heading_of Order = Some (codes "%logs")
 heading_of (Witness n) = None
 heading_of Verdict = None
 heading_of Show = None
+heading_of Faithful = None
 heading_of (Skew n) = None
 
 -- without a section the whole input is the litmus part
@@ -88,6 +89,7 @@ due_for_test Order test parts =
 due_for_test (Witness n) test parts = due_for_witness test n
 due_for_test Verdict test parts = option_map Core (due_for_atoms (profile_of test))
 due_for_test Show test parts = option_map Core (due_for_atoms (profile_of test))
+due_for_test Faithful test parts = option_map Core (due_for_atoms (profile_of test))
 due_for_test (Skew n) test parts = None
 
 -- ---- refusals of an input

@@ -1,8 +1,10 @@
 pub mod Status
 pub mod Words
 pub mod Due
+pub mod RuledOut
 pub mod Texts
 pub mod Showing
+pub mod Faithful
 pub mod Top
 pub mod Answering
 pub mod Laws

@@ -14,6 +14,8 @@ use Rattle.verdict.specs.Verdicts.{HasCycle, HasNoCycle}
 use Rattle.decision.specs.Hidden.{hidden_in}
 use Rattle.decision.specs.Shown.{IsOrdered, Shows}
 use Rattle.decision.specs.declared.hidden.HiddenRead.{HiddenRead}
+use Rattle.litmus_outcomes.specs.Outcome.{IsPossible}
+use Rattle.tool_core.specs.RuledOut.{IsRuledOut}
 use Rattle.tool_core.specs.declared.reasons.Reason.{Reason}
 use Rattle.tool_core.specs.declared.reasons.Reason.TheVariants.{Cycle, Hidden}
 use Rattle.tool_core.specs.declared.reasons.Unshown.{Unshown}
@@ -22,11 +24,12 @@ use Rattle.tool_core.specs.Texts.{cycle_line, node_text}
 
 -- ---- a run
 
--- conjunction c is ordered, its edges have no cycle, and these events show it
+-- conjunction c is ordered, its edges have no cycle, and these events show it; so it is an outcome of the test
 pub record IsShownBy (checked : CheckedTest) (c : ℕ) (events : List RunEvent) : Type 0 where
   pub ordered : IsOrdered checked c
   pub none : HasNoCycle checked c
   pub shows : Shows checked c (map event_of events)
+  pub possible : IsPossible checked.test c
 
 -- each of the first so many conjunctions that is ordered has a cycle of edges
 abbrev pub NoneIsShown : CheckedTest → ℕ → Type 0
@@ -93,10 +96,10 @@ unshown_text_of (Forbidden reasons) = reasons_text reasons.items
 unshown_text_of (Undecided c) = number_line (codes "Undecided") c
 
 -- The text tells a run that shows the first conjunction that is ordered and has no cycle; or one reason for each
--- conjunction; or, where there is neither, the first conjunction without a reason.
+-- conjunction, and then the condition is ruled out; or, where there is neither, the first conjunction without a reason.
 pub data IsShowingOn (checked : CheckedTest) (text : List ℕ) : Type 0 where
   run : (events : List RunEvent) → IsFirstShown checked events → text ≡ run_text_of 1 events → IsShowingOn checked text
-  forbidden : (reasons : List Reason) → AreReasons checked (length checked.test.ends) reasons
+  forbidden : (reasons : List Reason) → AreReasons checked (length checked.test.ends) reasons → IsRuledOut checked
       → text ≡ reasons_text reasons → IsShowingOn checked text
   undecided : (c : ℕ) → IsFirstUndecided checked c → NoneIsShown checked (length checked.test.ends)
       → text ≡ number_line (codes "Undecided") c → IsShowingOn checked text

@@ -36,6 +36,7 @@ use Rattle.verdict.specs.declared.answer.Verdict.{Verdict}
 use Rattle.verdict.specs.declared.answer.Verdict.TheVariants.{Forbidden, Open}
 use Rattle.program_edge.specs.Field.{SomeRunFits}
 use Rattle.tool_core.specs.Due.{section_logs}
+use Rattle.tool_core.specs.RuledOut.{IsRuledOut}
 
 -- ---- judge
 
@@ -139,9 +140,9 @@ verdict_text_of (Forbidden cycles) = forbidden_text (map (λ cycle. cycle.items)
 verdict_text_of (Open c) = number_line (codes "Open") c
 
 -- The text tells one cycle for each conjunction of the test, whose atoms have these kinds, or the first conjunction
--- that has none.
+-- that has none. Where it tells cycles, the condition is ruled out.
 pub data IsVerdictOn (checked : CheckedTest) (text : List ℕ) : Type 0 where
-  forbidden : (cycles : List (List Node)) → AreCycles checked cycles → text ≡ forbidden_text cycles
+  forbidden : (cycles : List (List Node)) → AreCycles checked cycles → IsRuledOut checked → text ≡ forbidden_text cycles
       → IsVerdictOn checked text
   opened : (c : ℕ) → IsFirstOpen checked c → text ≡ number_line (codes "Open") c → IsVerdictOn checked text
 

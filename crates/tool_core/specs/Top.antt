@@ -18,8 +18,9 @@ use Rattle.tool_core.specs.Words.{command_of}
 use Rattle.tool_core.specs.Due.{IsDue, Took, call_of, due_for_test, parts_of}
 use Rattle.tool_core.specs.Texts.{IsJudged, IsOrdered, IsSkewText, IsVerdictText, IsWitnessed, options_of}
 use Rattle.tool_core.specs.Showing.{IsShowingText}
+use Rattle.tool_core.specs.Faithful.{IsFaithText}
 use Rattle.tool_core.specs.declared.words.Command.{Command}
-use Rattle.tool_core.specs.declared.words.Command.TheVariants.{Judge, Order, Witness, Verdict, Show, Skew}
+use Rattle.tool_core.specs.declared.words.Command.TheVariants.{Judge, Order, Witness, Verdict, Show, Faithful, Skew}
 use Rattle.tool_core.specs.declared.status.ToolStatus.{ToolStatus}
 use Rattle.tool_core.specs.declared.status.ToolStatus.TheVariants.{Core, NoSection, BadLine, TooLong, Events, SeveralWriters}
 
@@ -32,6 +33,7 @@ IsText Order test parts done text = IsStill done × IsOrdered test parts text
 IsText (Witness n) test parts done text = IsWitnessed test n done text
 IsText Verdict test parts done text = IsStill done × IsVerdictText test text
 IsText Show test parts done text = IsStill done × IsShowingText test text
+IsText Faithful test parts done text = IsStill done × IsFaithText test text
 IsText (Skew n) test parts done text = IsSkewText test n done text
 
 -- the iterations of a command that runs the test on the field
@@ -41,6 +43,7 @@ iterations_run Order = None
 iterations_run (Witness n) = Some n
 iterations_run Verdict = None
 iterations_run Show = None
+iterations_run Faithful = None
 iterations_run (Skew n) = Some n
 
 -- the command makes no step on the field
@@ -54,6 +57,7 @@ RanFor Order test done = ⊥
 RanFor (Witness n) test done = SomeRunFits test (options_of n) done
 RanFor Verdict test done = ⊥
 RanFor Show test done = ⊥
+RanFor Faithful test done = ⊥
 RanFor (Skew n) test done = SomeRunFits test (options_of n) done
 
 -- the input has a litmus part that reads as this test, and this section, and no refusal is due
@@ -136,11 +140,21 @@ AnswersTooLong words old new status = (command : Command) (input : List ℕ)
     → ((status ≡ TooLong) × (new.bytes ≡ Some (drop 16777217 input)))
     ⊎ ((status ≡ Core Memory) ⊎ ((status ≡ Core ReadFault) × Rose old.faults new.faults))
 
--- That a test is outside the profile is answered for `verdict` and `show` alone, and the limit of frames for no
--- command.
+-- the commands that ask for the kind of each atom
+abbrev pub AsksForKinds : Command → Type 0
+AsksForKinds Judge = ⊥
+AsksForKinds Order = ⊥
+AsksForKinds (Witness n) = ⊥
+AsksForKinds Verdict = Unit {0}
+AsksForKinds Show = Unit {0}
+AsksForKinds Faithful = Unit {0}
+AsksForKinds (Skew n) = ⊥
+
+-- That a test is outside the profile is answered for `verdict`, `show` and `faithful` alone, and the limit of frames
+-- for no command.
 pub record SuitsCommand (words : List (List ℕ)) (status : ToolStatus) : Type 0 where
   pub outside_profile : (atom kind : ℕ) → status ≡ Core (OutsideProfile atom kind)
-      → (command_of words ≡ Some Verdict) ⊎ (command_of words ≡ Some Show)
+      → (command : Command) × (command_of words ≡ Some command) × AsksForKinds command
   pub frames : status ≡ Core (Limit Frames) → ⊥
 
 -- the statuses before which the input was read to its end

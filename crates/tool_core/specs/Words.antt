@@ -4,7 +4,7 @@ use Rattle.std.specs.Str.{bytes_eq}
 use Rattle.perp_base.specs.declared.limits.TheConstants.{MOST_ITERATIONS}
 use Rattle.command_words.specs.Words.{iterations_in}
 use Rattle.tool_core.specs.declared.words.Command.{Command}
-use Rattle.tool_core.specs.declared.words.Command.TheVariants.{Judge, Order, Witness, Verdict, Show, Skew}
+use Rattle.tool_core.specs.declared.words.Command.TheVariants.{Judge, Order, Witness, Verdict, Show, Faithful, Skew}
 
 -- a command that takes no further word
 abbrev pub alone : Command → List (List ℕ) → Option Command
@@ -19,6 +19,7 @@ named_in name words =
     else if bytes_eq name (codes "witness") then option_map Witness (iterations_in words)
     else if bytes_eq name (codes "verdict") then alone Verdict words
     else if bytes_eq name (codes "show") then alone Show words
+    else if bytes_eq name (codes "faithful") then alone Faithful words
     else if bytes_eq name (codes "skew") then option_map Skew (iterations_in words) else None
 
 -- the command that the words name, if any
@@ -33,4 +34,5 @@ HasIterations Order = Unit {0}
 HasIterations (Witness n) = (1 ≤ n) × (n ≤ MOST_ITERATIONS)
 HasIterations Verdict = Unit {0}
 HasIterations Show = Unit {0}
+HasIterations Faithful = Unit {0}
 HasIterations (Skew n) = (1 ≤ n) × (n ≤ MOST_ITERATIONS)

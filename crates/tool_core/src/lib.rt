@@ -14,6 +14,7 @@
 #![tactic(auto)]
 
 mod answer;
+mod faithful;
 mod judging;
 mod laws;
 mod number_text;
@@ -35,13 +36,16 @@ mod writers;
 pub use answer::answer_text;
 pub use laws::{judgements_are_repeated, verdicts_are_repeated, written_runs_are_legal};
 pub use perp_loop::{Gate, NoGate};
-pub use program_edge::{Answered, Outcome, Request};
+pub use program_edge::{Answered, Request};
 pub use report_text::{Over, Status};
 pub use request::read_request;
 pub use status::ToolStatus;
 pub use top::tool;
 pub use tso_words::{Done, Field};
 pub use words::Command;
+
+/// How a call of [`tool`] ended, and the field that it was given, closed.
+pub type ToolOutcome = program_edge::Outcome<ToolStatus>;
 
 #[cfg(test)]
 mod tests;

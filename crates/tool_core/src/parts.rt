@@ -33,8 +33,10 @@ pub fn parts_in<'a>(command: &Command, input: &'a [u8]) -> Option<Section<'a>>
     match command {
         Command::Judge => find_section(b"%events", input),
         Command::Order => find_section(b"%logs", input),
-        Command::Witness(_) | Command::Verdict | Command::Show | Command::Skew(_) => {
-            Some(all_litmus(input))
-        }
+        Command::Witness(_)
+        | Command::Verdict
+        | Command::Show
+        | Command::Faithful
+        | Command::Skew(_) => Some(all_litmus(input)),
     }
 }

@@ -5,6 +5,7 @@ ghost use Rattle.tool_core.specs.Status.{HasToolKind, tool_line, tool_number};
 ghost use Rattle.tool_core.specs.declared.status.ToolStatus.TheVariants.{Core};
 
 use perp_base::NoMemory;
+use program_edge::Numbered;
 use report_text::{Line, Status, refusal_text};
 
 /// How a call of the second program ended.
@@ -39,6 +40,14 @@ impl From<Status> for ToolStatus {
 
     fn from(refusal: Status) -> ToolStatus {
         ToolStatus::Core(refusal)
+    }
+}
+
+impl Numbered for ToolStatus {
+    ghost number_of = { tool_number };
+
+    fn ending(&self) -> u8 {
+        self.number()
     }
 }
 

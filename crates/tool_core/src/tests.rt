@@ -1,15 +1,17 @@
 //! Calls of the second program over memory sources and sinks, row by row.
-ghost use Rattle.std.specs.Prelude.{◌<◌, None, length};
+ghost use Rattle.std.specs.Prelude.{◌≡◌, ◌<◌, ◌+◌, None, length};
 ghost use Rattle.std.specs.Io.{ReadsAtMost};
 ghost use Rattle.std.specs.Io.KnownBytes.{ReadConsumes};
 ghost use Rattle.perp_base.specs.Causes.{HasCause};
 
+mod faiths;
 mod meeting;
 mod rows;
 mod shown;
 
 use super::*;
-use perp_base::{Failed, MemSink, MemSource, Source};
+use faiths::FAITHS;
+use perp_base::{Calls, Failed, MemSink, MemSource, Source};
 use rows::ROWS;
 use std::alloc::Global;
 use std::process::Abort;
@@ -190,13 +192,13 @@ fn rows_are_answered(rt: HostRuntime) -> Result<(), Fail> {
     Ok(())
 }
 
-/// A test, and the first line of its verdict.
+/// A test, and its verdict. Each forbidden test here has one cycle; with which node the text begins is free.
 const VERDICTS: [(&str, &str); 8] = [
-    (SBF, "Forbidden\nCycle 0 "),
-    (SBX, "Forbidden\nCycle 0 "),
-    (MP, "Forbidden\nCycle 0 "),
-    (LB, "Forbidden\nCycle 0 "),
-    (IRIW, "Forbidden\nCycle 0 "),
+    (SBF, "Forbidden\nCycle 0 P0 0 P0 2 P1 0 P1 2\n"),
+    (SBX, "Forbidden\nCycle 0 P0 0 P0 1 P1 0 P1 1\n"),
+    (MP, "Forbidden\nCycle 0 P0 0 P0 1 P1 0 P1 1\n"),
+    (LB, "Forbidden\nCycle 0 P0 0 P0 1 P1 0 P1 1\n"),
+    (IRIW, "Forbidden\nCycle 0 P0 0 P1 0 P1 1 P2 0 P3 0 P3 1\n"),
     (SB, "Open 0\n"),
     (OWN, "Open 0\n"),
     (EITHER, "Open 1\n"),
@@ -205,10 +207,33 @@ const VERDICTS: [(&str, &str); 8] = [
 #[test]
 fn verdicts_are_given(rt: HostRuntime) -> Result<(), Fail> {
     let alloc = rt.alloc();
-    for (text, front) in VERDICTS {
-        let ran = call(&rt, alloc, "verdict", text.as_bytes(), NEVER)?;
-        let begins = ran.out.written().starts_with(front.as_bytes());
-        assert_eq!(rt; (ran.status.number(), begins), (0, true), "at {text}");
+    for (text, verdict) in VERDICTS {
+        assert_answer(
+            &rt,
+            alloc,
+            "verdict",
+            text.as_bytes(),
+            0,
+            verdict.as_bytes(),
+            "",
+        )?;
+    }
+    Ok(())
+}
+
+#[test]
+fn faithful_tests_are_told(rt: HostRuntime) -> Result<(), Fail> {
+    let alloc = rt.alloc();
+    for (text, line) in FAITHS {
+        assert_answer(
+            &rt,
+            alloc,
+            "faithful",
+            text.as_bytes(),
+            0,
+            line.as_bytes(),
+            "",
+        )?;
     }
     Ok(())
 }
@@ -341,18 +366,22 @@ fn prefixes_are_answered(rt: HostRuntime) -> Result<(), Fail> {
 }
 
 /// A source of blanks without an end.
-#[derive(Clone, Copy)]
-struct Blanks;
+#[derive(Drop)]
+struct Blanks {
+    calls: Calls,
+}
 
 impl Source for Blanks {
-    ghost seen = { λ _. record { bytes = None; faults = 0 } };
+    ghost seen = { λ blanks. record { bytes = None; faults = 0; calls = blanks.calls.made } };
 
     fn read(&mut self, buf: &mut [u8]) -> Result<usize, Failed>
         requires { 0 < length buf.old }
         ensures bound { ReadsAtMost result buf.new }
         ensures bytes { ReadConsumes None None result buf.new }
         ensures cause { HasCause 0 0 result }
+        ensures called { self.new.calls.made ≡ self.old.calls.made + 1 }
     {
+        self.calls = self.calls.and_one();
         buf.fill(b' ');
         Ok(buf.len())
     }
@@ -382,7 +411,10 @@ fn long_litmus_parts_are_refused(rt: HostRuntime) -> Result<(), Fail> {
 fn inputs_without_an_end_are_refused(rt: HostRuntime) -> Result<(), Fail> {
     let alloc = rt.alloc();
     for line in ["judge", "order", "witness 1", "verdict", "skew 1"] {
-        let called = call_on(&rt, alloc, line, &mut Blanks, NEVER)?;
+        let mut blanks = Blanks {
+            calls: Calls::none(),
+        };
+        let called = call_on(&rt, alloc, line, &mut blanks, NEVER)?;
         assert_ended(
             &rt,
             &called,

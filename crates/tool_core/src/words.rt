@@ -19,6 +19,8 @@ pub enum Command {
     Verdict,
     /// Show a run in which a conjunction of the condition holds.
     Show,
+    /// Say whether each frame that is counted is an outcome of the test.
+    Faithful,
     /// Run the test so often, and tell how far apart the threads were.
     Skew(u32),
 }
@@ -53,6 +55,7 @@ pub fn read_words(alloc: Global, words: &[String]) -> Result<Command, WordsError
         "witness" => Ok(Command::Witness(read_iterations(alloc, words)?)),
         "verdict" => alone(words, Command::Verdict),
         "show" => alone(words, Command::Show),
+        "faithful" => alone(words, Command::Faithful),
         "skew" => Ok(Command::Skew(read_iterations(alloc, words)?)),
         _ => Err(WordsError::Usage),
     }

@@ -9,6 +9,7 @@ ghost use Rattle.tool_core.specs.Top.{IsText, RanFor};
 ghost use Rattle.tool_core.specs.Words.{HasIterations};
 ghost use Rattle.perp_base.specs.declared.limits.TheConstants.{MOST_ITERATIONS};
 
+use crate::faithful::faithful_on;
 use crate::judging::judge_section;
 use crate::ordering::order_section;
 use crate::showing::show_on;
@@ -53,6 +54,7 @@ pub fn work<R: Threads + Sync, G: Gate>(
         Command::Judge => Answered::still(judge_section(alloc, &test, section), field),
         Command::Verdict => Answered::still(verdict_on(alloc, test), field),
         Command::Show => Answered::still(show_on(alloc, test), field),
+        Command::Faithful => Answered::still(faithful_on(alloc, test), field),
         Command::Skew(n) => skew_run(rt, alloc, &test, *n, field, gate),
         Command::Witness(n) => witness_run(rt, alloc, &test, *n, field, gate),
         Command::Order => Answered::still(order_section(alloc, &test, section), field),

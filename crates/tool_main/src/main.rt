@@ -1,32 +1,29 @@
-//! The second program: hands the words, standard input, both outputs and a new field to [`tool_core::tool`], whose
-//! contract has all that is promised, and ends with the number of the status.
+//! The second program: hands the words, standard input, both outputs and a new field to [`tool_core::tool`],
+//! whose contract has all that is promised, and ends with the number that [`program_edge::ending`] has for it.
 #![tactic(auto)]
 
-use perp_base::{StdSink, StdSource};
-use program_edge::{NO_MEMORY, words_of};
+use perp_base::{Sink, Source, StdSink, StdSource};
+use program_edge::{Unmade, ending, words_of};
 use std::process::ExitCode;
-use tool_core::{Field, NoGate, tool};
+use std::rt::Env;
+use std::thread::Threads;
+use tool_core::{Field, NoGate, ToolOutcome, tool};
+
+/// The program's one call; or why it is not made.
+fn call<R: Threads + Sync + Env + AllocGlobal, S: Source, O: Sink, E: Sink>(
+    rt: &R,
+    source: &mut S,
+    out: &mut O,
+    err: &mut E,
+) -> Result<ToolOutcome, Unmade> {
+    let words = words_of(rt)?;
+    let field = Field::new(rt.alloc())?;
+    Ok(tool(rt, rt.alloc(), &words, source, out, err, field, &NoGate))
+}
 
 fn main(rt: HostRuntime) -> ExitCode {
-    let words = match words_of(&rt) {
-        Ok(words) => words,
-        Err(status) => return ExitCode::from(status),
-    };
-    let Ok(field) = Field::new(rt.alloc()) else {
-        return ExitCode::from(NO_MEMORY);
-    };
     let mut source = StdSource::new(rt.stdin());
     let mut out = StdSink::new(rt.stdout());
     let mut err = StdSink::new(rt.stderr());
-    let outcome = tool(
-        &rt,
-        rt.alloc(),
-        &words,
-        &mut source,
-        &mut out,
-        &mut err,
-        field,
-        &NoGate,
-    );
-    ExitCode::from(outcome.status.number())
+    ExitCode::from(ending(&call(&rt, &mut source, &mut out, &mut err)))
 }

@@ -3,7 +3,7 @@ use Rattle.std.proofs.Common.{◌≡◌, ℕ, Ok, Err, Result}
 use Rattle.std.specs.Prelude.{codes}
 use Prim.Native.String.{String}
 use Rattle.x86_subset.specs.declared.instr.Reg.TheVariants.{Eax, Edi}
-use Rattle.x86_subset.specs.declared.cell.InstrError.TheVariants.{Unknown, Operand, TooLarge}
+use Rattle.x86_subset.specs.declared.cell.InstrError.TheVariants.{Unknown, Operand, Number}
 use Rattle.x86_subset.specs.Token.{start, is_blank, is_head, is_tail, sign, is_pair, close_end, pair_cut, cut_at, lex}
 use Rattle.x86_subset.specs.Form.{register_of, fill, fit, meaning}
 use Rattle.x86_subset.specs.declared.cell.InstrError.{InstrError}
@@ -28,8 +28,8 @@ accepted : (cell "  (* nothing *) " ≡ Ok Blank)
 unfolding everything
 accepted = assumption
 
-refused : (cell "MOV [x],$4294967296" ≡ Err TooLarge)
-    × (cell "MOV EAX,$99999999999" ≡ Err TooLarge)
+refused : (cell "MOV [x],$4294967296" ≡ Err Number)
+    × (cell "MOV EAX,$99999999999" ≡ Err Number)
     × (cell "INC [x]" ≡ Err Unknown)
     × (cell "[x],1" ≡ Err Unknown)
     × (cell "MOV" ≡ Err Operand)

@@ -14,7 +14,7 @@ use Rattle.x86_subset.specs.declared.form.Slot.{Slot}
 use Rattle.x86_subset.specs.declared.form.Slot.TheVariants.{Mark, Maybe, Word, Location, Register, Any}
 use Rattle.x86_subset.specs.Token.{Lexeme}
 use Rattle.x86_subset.specs.declared.cell.InstrError.{InstrError}
-use Rattle.x86_subset.specs.declared.cell.InstrError.TheVariants.{Unknown, Operand, TooLarge}
+use Rattle.x86_subset.specs.declared.cell.InstrError.TheVariants.{Unknown, Operand, Number}
 use Rattle.x86_subset.specs.Form.{is_keyword, Found, Row, Means, meaning}
 
 -- what a cell says
@@ -76,7 +76,7 @@ pub data Parses (ts : List Lexeme) : Result Form InstrError → Type 0 where
   -- one of the forms
   parsed : (form : Form) → Means cell_rows ts (Some form) → IsTrue (is_small form) → Parses ts (Ok form)
   -- one of the forms, and a numeral past 32 bits
-  too_large : (form : Form) → Means cell_rows ts (Some form) → IsFalse (is_small form) → Parses ts (Err TooLarge)
+  too_large : (form : Form) → Means cell_rows ts (Some form) → IsFalse (is_small form) → Parses ts (Err Number)
   -- another word in front
   unknown : Means cell_rows ts None → IsFalse (begins_instr ts) → Parses ts (Err Unknown)
   -- one of the words, and none of its forms
@@ -85,7 +85,7 @@ pub data Parses (ts : List Lexeme) : Result Form InstrError → Type 0 where
 -- the same as a function
 abbrev pub judged : List Lexeme → Option Form → Result Form InstrError
 judged ts None = Err (if begins_instr ts then Operand else Unknown)
-judged ts (Some form) = if is_small form then Ok form else Err TooLarge
+judged ts (Some form) = if is_small form then Ok form else Err Number
 
 -- what a cell says
 unfoldable pub parse : List Lexeme → Result Form InstrError

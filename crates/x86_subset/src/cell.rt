@@ -1,6 +1,6 @@
 //! The cells of the code.
 ghost use Rattle.std.specs.Prelude.{◌≡◌, ◌^◌, nat_lt, if◌then◌else◌, Ok, Err, option_map};
-ghost use Rattle.x86_subset.specs.declared.cell.InstrError.TheVariants.{TooLarge};
+ghost use Rattle.x86_subset.specs.declared.cell.InstrError.TheVariants.{Number};
 ghost use Rattle.x86_subset.specs.Form.{lexemes, meaning, Gives};
 ghost use Rattle.x86_subset.specs.Cell.{begins_instr, exchange_rows, parse};
 ghost use Rattle.x86_subset.specs.Raw.{form_of};
@@ -36,7 +36,7 @@ pub enum InstrError {
     /// The tokens after it have none of the forms.
     Operand,
     /// They have one, and its number is above 4,294,967,295.
-    TooLarge,
+    Number,
 }
 
 const STORE_NUMBER: [Slot; 7] = [
@@ -110,9 +110,9 @@ fn begins_instr(bytes: &[u8], cell: &[Token]) -> bool
 
 /// A number of 32 bits.
 fn small(number: u64) -> Result<u32, InstrError>
-    ensures { result ≡ (if nat_lt number (2 ^ 32) then Ok number else Err TooLarge) }
+    ensures { result ≡ (if nat_lt number (2 ^ 32) then Ok number else Err Number) }
 {
-    u32::try_from(number).map_err(|_| InstrError::TooLarge)
+    u32::try_from(number).map_err(|_| InstrError::Number)
 }
 
 /// What the tokens of a cell say that is an exchange, with its operands in either order.

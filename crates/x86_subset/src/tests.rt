@@ -131,7 +131,7 @@ fn cells_say_what_their_forms_mean(rt: HostRuntime) -> Result<(), Fail> {
 #[test]
 fn cells_of_no_form_are_refused_for_their_cause(rt: HostRuntime) -> Result<(), Fail> {
     let rows: [(&[u8], InstrError); 5] = [
-        (b"MOV EAX,$4294967296", InstrError::TooLarge),
+        (b"MOV EAX,$4294967296", InstrError::Number),
         (b"MFENCE [x]", InstrError::Operand),
         (b"MOV [EAX],$1", InstrError::Operand),
         (b"INC [x]", InstrError::Unknown),

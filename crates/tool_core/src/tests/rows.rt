@@ -2,7 +2,7 @@
 use super::*;
 
 /// The words, a test, what stands after it, the number of the status, and what is written to both sinks.
-pub(super) const ROWS: [(&str, &str, &str, u8, &str, &str); 38] = [
+pub(super) const ROWS: [(&str, &str, &str, u8, &str, &str); 41] = [
     (
         "judge",
         SB,
@@ -150,5 +150,22 @@ pub(super) const ROWS: [(&str, &str, &str, u8, &str, &str); 38] = [
     ("skew 100001", OWN, "", 2, "", USAGE),
     ("skew 3 3", OWN, "", 2, "", USAGE),
     ("verdict 1", OWN, "", 2, "", USAGE),
+    ("faithful 1", OWN, "", 2, "", USAGE),
+    (
+        "faithful",
+        TWO_WRITERS,
+        "exists (2:EAX=0)\n",
+        6,
+        "",
+        "perple: atom 1: kind 7 SeveralWriters\n",
+    ),
+    (
+        "faithful",
+        SB,
+        "%events 1\n",
+        5,
+        "",
+        "perple: line 7: kind 12 Trailing\n",
+    ),
     ("", OWN, "", 2, "", USAGE),
 ];

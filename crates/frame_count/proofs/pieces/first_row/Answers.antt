@@ -13,9 +13,9 @@ next-requires c =
         n,
         omega arith,
         omega arith,
-        frame_is n 0 logs c.frame_of-frame.result c.requires.iterations.0
-            c.requires.iterations.1 c.requires.threads.0 c.requires.whole frame,
+        frame_is n 0 logs c.frame_of-frame.result c.requires.iterations.0 c.requires.threads.0 c.requires.whole frame,
       );
+      few = c.requires.iterations.1;
       names = c.requires.names;
       known = c.requires.known;
       counts = c.nothing-counted.ensures c.args.conds.now c.args.logs.now.logs;

@@ -1,4 +1,4 @@
-use Rattle.std.proofs.Common.{◌≡◌, ◌-◌, ◌^◌, count_by, sym, ap, ◌∙◌}
+use Rattle.std.proofs.Common.{◌-◌, ◌^◌, count_by, ap, ◌∙◌}
 use Rattle.std.specs.List.{range_with_len}
 use Rattle.frame_count.specs.Count.{number_holds}
 use Rattle.frame_count.proofs.BlockCounts.{all_count, first_block}
@@ -12,7 +12,7 @@ count-requires-clause-block c =
     let task = c.new-task.ensures in
     first_block c.new-task.result c.new-place.result c.args.logs.now.logs c.args.n c.power-size.result task.task
     c.new-place.ensures task.logs task.n c.requires.threads.0
-    (c.power-size.ensures ∙ ap (λ t. c.args.n ^ t) c.len.ensures)
+    (c.power-size.ensures ∙ ap (λ t. c.args.n ^ t) c.len-2.ensures)
 
 pub returns : goal.returns
 returns c =

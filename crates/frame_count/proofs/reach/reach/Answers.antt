@@ -52,7 +52,7 @@ loop-cond-preserved c =
           one_more (a m) (is_within s m) s.row s.own (r m) (o m) (holds m x) (is_within t m) t.row t.own (row m x)
           (own m x)
           (c.loop-cond.invariant.3 m lt) (c.loop-cond.invariant.4 m) (c.loop-cond.invariant.5 m)
-          (c.cond_stretch.ensures.tells m lt) (row_one m) (own_one m)
+          (c.cond_stretch.ensures.row (let e = c.len.ensures.value in omega arith) m lt) (row_one m) (own_one m)
           ∙ sym (ap (λ z. z && ((not c.meet-stretch.result.row || (r m && row m x))
           && (not c.meet-stretch.result.own || (o m && own m x)))) (c.meet-stretch.ensures.within m)
           ∙ ap (λ z. (is_within s m && is_within t m) && ((not z || (r m && row m x))

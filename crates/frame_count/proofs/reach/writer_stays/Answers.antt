@@ -1,12 +1,11 @@
-use Rattle.std.proofs.Common.{◌≡◌, ℕ, ◌+◌, ◌-◌, ◌*◌, ◌<◌, ◌&&◌, get_or, length, slice_index, take, sym, ap, ◌∙◌, arith}
+use Rattle.std.proofs.Common.{◌≡◌, ℕ, ◌+◌, ◌*◌, ◌<◌, ◌&&◌, get_or, length, slice_set, slice_index, take, sym, ap, ◌∙◌, arith}
 use Rattle.std.proofs.lemmas.Bool.{eqb-false, eqb-true}
 use Rattle.std.proofs.lemmas.List.{get_or-take, get_or_default, length-take}
 use Rattle.load_log.specs.Values.{Values, value_at}
 use Rattle.outcome_conv.specs.Conds.{kind_holds}
 use Rattle.outcome_conv.specs.Holds.{iteration_in}
-use Rattle.frame_count.specs.Count.{with_last}
-use Rattle.frame_count.specs.Row.{bound_of, holds_along, is_within, kind_test, residue_fits}
-use Rattle.frame_count.proofs.Reaches.{in_column, moves, settles, stays, value_there}
+use Rattle.frame_count.specs.Row.{bound_of, holds_with, is_within, kind_test, residue_fits}
+use Rattle.frame_count.proofs.Reaches.{in_column, moves_at, settles, stays_at, value_there}
 use Rattle.frame_count.proofs.ByKind.{test_holds}
 use Rattle.frame_count.proofs.reach.writer_stays.Goals as goal
 
@@ -47,7 +46,7 @@ of_values-requires-clause-order c i j d le lt =
 
 -- the condition by the stretch and its residue
 tells : (c : goal.After-of_values) (m : ℕ) → m < c.args.n
-    → holds_along c.args.logs.now.logs c.args.frame.now m c.args.cond.now
+    → holds_with c.args.logs.now.logs c.args.frame.now c.args.t m c.args.cond.now
     ≡ (is_within c.of_values.result m && residue_fits c.args.cond.now.kind
     (value_at c.args.logs.now.logs c.args.cond.now.reader c.args.cond.now.column m))
 tells c m lt =
@@ -55,9 +54,7 @@ tells c m lt =
     let frame = c.args.frame.now in
     let values = value_at c.args.logs.now.logs cond.reader cond.column in
     let taken = take c.args.n c.column.result.now in
-    let last : cond.reader ≡ length frame - 1 = eqb-true _ _ c.requires.reader in
-    let in_frame : cond.reader < length frame = let one = c.requires.frame.2.one_each in
-    let r = c.requires.frame.3.names.reader in omega arith in
+    let last : cond.reader ≡ c.args.t = eqb-true _ _ c.requires.reader in
     let log = c.at-log.result.now in
     let room = c.column.ensures.room in
     let there = in_column m log.columns cond.column (length c.column.result.now) (length log.values)
@@ -67,9 +64,9 @@ tells c m lt =
     ∙ ap (λ (log : Values). slice_index log.values (m * log.columns + cond.column)) c.at-log.ensures.log in
     let bound : bound_of cond.kind (slice_index frame cond.writer)
     ≡ c.bound-bound.result = sym (c.bound-bound.ensures ∙ ap (bound_of cond.kind) c.at.ensures) in
-    ap (λ i. kind_holds cond.kind (values i) (iteration_in (with_last frame m) cond.writer))
-    (moves frame cond.reader m last in_frame)
-    ∙ ap (kind_holds cond.kind (values m)) (stays frame cond.writer m (eqb-false _ _ c.requires.writer))
+    ap (λ i. kind_holds cond.kind (values i) (iteration_in (slice_set frame c.args.t m) cond.writer))
+    (moves_at frame c.args.t cond.reader m last c.requires.thread)
+    ∙ ap (kind_holds cond.kind (values m)) (stays_at frame c.args.t cond.writer m (eqb-false _ _ c.requires.writer))
     ∙ sym (test_holds cond.kind (values m) (slice_index frame cond.writer))
     ∙ ap (kind_test cond.kind (values m)) bound
     ∙ ap (λ v. kind_test cond.kind v c.bound-bound.result) (sym value)

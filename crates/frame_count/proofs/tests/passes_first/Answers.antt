@@ -6,8 +6,7 @@ pub holds-requires-clause-frame : goal.holds-requires-clause-frame
 holds-requires-clause-frame c =
     let first : 0 < c.args.n = omega arith in (
       c.args.n,
-      frame_two c.args.n 1 0 c.args.logs.now.logs c.pair-frame.result c.requires.logs first c.requires.n.1
-          c.pair-frame.ensures,
+      frame_two c.args.n 1 0 c.args.logs.now.logs c.pair-frame.result c.requires.logs first c.pair-frame.ensures,
     )
 
 pub holds-requires-clause-names : goal.holds-requires-clause-names

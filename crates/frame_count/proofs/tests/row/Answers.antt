@@ -7,7 +7,7 @@ row_count-requires-clause-frame c = (
   c.requires.row.0,
   c.requires.row.1,
   frame_two c.args.n 1 c.args.first c.args.logs.now.logs c.pair-frame.result c.requires.logs c.requires.first
-      c.requires.n c.pair-frame.ensures,
+      c.pair-frame.ensures,
 )
 
 pub row_count-requires-clause-names : goal.row_count-requires-clause-names

@@ -1,15 +1,24 @@
 use Rattle.std.proofs.Common.{◌∙◌}
-use Rattle.program_edge.proofs.Endings.{completes_of, due_of, ended_from, too_long_of, usage_of}
+use Rattle.program_edge.proofs.Endings.{completes_of, due_of, ended_from, memory_of, too_long_of, usage_of}
 use Rattle.perple_core.proofs.Endings.{ends_of, field_of, laws, whole_of, part_of}
 use Rattle.perple_core.proofs.Headlines.{reads_of, fits_of, texts_of}
 use Rattle.perple_core.proofs.Demos.{demo_completes_of}
+use Rattle.perple_core.proofs.Requests.{call_answers, call_leaves, call_refused}
 use Rattle.perple_core.proofs.top.perple.Goals as goal
 
 pub returns-clause-ended : goal.returns-clause-ended
 returns-clause-ended g c =
-    ended_from c.answer-text.result.text _ c.answer-text.ensures.ok c.answer-text.ensures.err
-    c.answer-text.ensures.done
+    let is = c.read_request-request.ensures.request in
+    let request = c.read_request-request.result in
+    let done = c.answer_text-text.result.done in
+    let answer = c.answer_text-text.result.text in
+    ended_from answer _ (call_answers _ _ _ request is done answer c.answer_text-text.ensures.right)
+    (call_refused _ _ _ request is done answer c.answer_text-text.ensures.refused)
+    (call_leaves _ _ _ request is done answer c.answer_text-text.ensures.left)
     c.deliver-status.ensures.refused c.deliver-status.ensures.text
+
+pub returns-clause-memory : goal.returns-clause-memory
+returns-clause-memory g c = memory_of (laws _ _ _ _) _ (returns-clause-ended g c)
 
 pub returns-clause-usage : goal.returns-clause-usage
 returns-clause-usage g c = usage_of (laws _ _ _ _) _ (returns-clause-ended g c)

@@ -1,4 +1,4 @@
-use Rattle.std.proofs.Common.{◌≡◌, ℕ, ◌+◌, ◌-◌, ◌*◌, ◌<◌, ◌≤◌, take}
+use Rattle.std.proofs.Common.{◌≡◌, ◌+◌, ◌-◌, ◌*◌, ◌<◌, ◌≤◌, take}
 use Rattle.frame_count.specs.Block.{IsPlace, block_holds}
 use Rattle.frame_count.proofs.Counts.{IsCountedTo}
 use Rattle.frame_count.proofs.block.Place.+count.Given as goal

@@ -1,10 +1,14 @@
-use Rattle.std.proofs.Common.{false, refl, replicate, ap, ◌∙◌}
-use Rattle.frame_count.specs.declared.block.Block.{Block}
-use Rattle.frame_count.proofs.BlockCounts.{place_new}
+use Rattle.std.proofs.Common.{replicate, ap, ◌∙◌}
+use Rattle.frame_count.proofs.BlockCounts.{first_frame}
 use Rattle.frame_count.proofs.block.Place.new.Goals as goal
 
 pub returns : goal.returns
 returns c =
-    let b : Block = record { fixed = 0; iterations = replicate 8 0; alive = replicate 8 false; hits = 0 } in
-    place_new c.args.task.now _ b c.requires.iterations.0 c.requires.iterations.1 c.requires.threads.0 c.requires.whole
-    c.requires.row (c.filled.ensures ∙ ap (λ k. replicate k 0) c.len.ensures) refl refl refl refl
+    let task = c.args.task.now in
+    record {
+      frame =
+          first_frame task.logs.now.logs task.n c.filled.result c.requires.some c.requires.threads.0 c.requires.whole
+          (c.filled.ensures ∙ ap (λ k. replicate k 0) c.len.ensures);
+      row = c.requires.row;
+      blocks = λ blocks e. c.no_blocks.ensures task.conds.now task.logs.now.logs task.n blocks e;
+    }

@@ -50,14 +50,14 @@ pub overflow_add-result : goal.overflow_add-result
 overflow_add-result c =
     let fit = parts_fit c in
     let high = c.requires.row.1.frame.1 in
-    let few = c.requires.row.1.frame.2.few in
+    let few = c.requires.few in
     record { fits = omega arith }
 
 pub overflow_add-result-2 : goal.overflow_add-result-2
 overflow_add-result-2 c =
     let fit = parts_fit c in
     let high = c.requires.row.1.frame.1 in
-    let few = c.requires.row.1.frame.2.few in
+    let few = c.requires.few in
     record { fits = omega arith }
 
 pub returns : goal.returns

@@ -1,0 +1,50 @@
+-- What a line of words stands for, as the rules of the command line tell it: after the name of a command the number of
+-- iterations and the options, in any order. This project's own; the two ways to write an option are GNU's.
+use Rattle.std.specs.Prelude.{◌≡◌, ◌↔◌, ◌++◌, ℕ, true, false, List, [], ◌∷◌, Some, codes}
+use Rattle.command_words.specs.declared.job.Command.{Command}
+use Rattle.command_words.specs.declared.job.Command.TheVariants.{Run, Replay, Convert, Demo}
+use Rattle.command_words.specs.Job.{Asked}
+use Rattle.command_words.specs.Words.{Given, Text, command_of, is_among, is_given, job_of, number_of, replay_names, run_names, value_given}
+
+-- the option of this name, in a word
+abbrev pub spelled : Text → Text
+spelled name = codes "--" ++ name
+
+-- `Gives names gs words`: the words give these values to `N` and to options of these names. They are any number of the
+-- following, one after another in any order; nothing is given twice.
+pub data Gives (names : List Text) : List Given → List Text → Type 0 where
+  nothing : Gives names [] []
+  -- a word by itself, which is given to `N`
+  number : (word : Text) (gs : List Given) (words : List Text) → is_given (codes "N") gs ≡ false → Gives names gs words
+      → Gives names (record { name = codes "N"; value = word } ∷ gs) (word ∷ words)
+  -- `--name` and a value, in two words
+  apart : (name value : Text) (gs : List Given) (words : List Text) → is_among name names ≡ true
+      → is_given name gs ≡ false → Gives names gs words
+      → Gives names (record { name = name; value = value } ∷ gs) (spelled name ∷ value ∷ words)
+  -- `--name=value`, in one word
+  joined : (name value : Text) (gs : List Given) (words : List Text) → is_among name names ≡ true
+      → is_given name gs ≡ false → Gives names gs words
+      → Gives names (record { name = name; value = value } ∷ gs) ((spelled name ++ codes "=" ++ value) ∷ words)
+
+-- the words ask for this job: they give values, and the values are its numbers, with `N` among them
+pub record AsksFor (names : List Text) (words : List Text) (job : Asked) : Type 0 where
+  pub gs : List Given
+  pub gives : Gives names gs words
+  pub numbers : job_of (value_given gs) ≡ Some job
+
+-- `StandsFor words command`: the words are a line of this command
+pub data StandsFor : List Text → Command → Type 0 where
+  run : (words : List Text) (job : Asked) → AsksFor run_names words job → StandsFor (codes "run" ∷ words) (Run job)
+  replay : (words : List Text) (job : Asked) → AsksFor replay_names words job
+      → StandsFor (codes "replay" ∷ words) (Replay job)
+  convert : StandsFor (codes "convert" ∷ []) Convert
+  demo : (word : Text) (k : ℕ) → number_of word ≡ Some k → StandsFor (codes "demo" ∷ word ∷ []) (Demo k)
+
+-- law: a line of words stands for a command exactly where that is the one which is read from left to right; so it stands
+-- for one at most
+abbrev pub LinesAreRead : Type 0
+LinesAreRead = (words : List Text) (command : Command) → StandsFor words command ↔ (command_of words ≡ Some command)
+
+abbrev pub LinesStandForOne : Type 0
+LinesStandForOne =
+    (words : List Text) (one other : Command) → StandsFor words one → StandsFor words other → one ≡ other

@@ -1,0 +1,9 @@
+//! What a line of words stands for.
+ghost use Rattle.command_words.specs.Lines.{LinesAreRead, LinesStandForOne};
+
+/// A line of words stands for the command that is read from it, and for no other: options in any order, each at most
+/// once and in either spelling, and the number of iterations once.
+pub fn lines_stand_for_their_commands()
+    ensures read { LinesAreRead }
+    ensures one { LinesStandForOne }
+{}

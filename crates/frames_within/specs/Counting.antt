@@ -1,0 +1,34 @@
+-- The frames of a run within which the condition of the test holds, and the conditions in numbers that count them. The
+-- exhaustive counter is after PerpLE's (Melissaris, Markakis, Shaw and Martonosi, MICRO 2020); that no later iteration
+-- is taken is this project's own.
+use Rattle.std.specs.Prelude.{ℕ, Bool, List, filter, length, map}
+use Rattle.x86_subset.specs.Conjunctions.{some_conjunction}
+use Rattle.x86_subset.specs.Test.{LitmusTest}
+use Rattle.tso_machine.specs.Event.{Event}
+use Rattle.tso_machine.specs.Frame.{frames_of}
+use Rattle.profile_check.specs.declared.kind.AtomKind.{AtomKind}
+use Rattle.outcome_conv.specs.declared.cond.Cond.{Cond}
+use Rattle.outcome_conv.specs.declared.cond.CondKind.{CondKind}
+use Rattle.outcome_conv.specs.declared.cond.CondKind.TheVariants.{AtLeast, Below, Exact}
+use Rattle.litmus_outcomes.specs.Within.{cond_within, holds_within}
+
+-- whether for at least one conjunction all of its atoms hold within the frame
+abbrev pub is_hit_within : LitmusTest → List AtomKind → List Event → List ℕ → Bool
+is_hit_within test kinds run frame = some_conjunction (holds_within test run frame) test.ends kinds
+
+-- the frames of n iterations of which that is so, in rising order of their numbers
+abbrev pub hits_within : LitmusTest → List AtomKind → ℕ → List Event → List (List ℕ)
+hits_within test kinds n run = filter (is_hit_within test kinds run) (frames_of n (length test.bodies))
+
+-- the conditions in numbers
+abbrev pub conds_within : LitmusTest → List AtomKind → List Cond
+conds_within test kinds = map (cond_within test) kinds
+
+-- a condition that asks for the value k*m + a in place of this or a later one of the store
+abbrev pub narrowed_kind : CondKind → CondKind
+narrowed_kind (AtLeast k a) = Exact k a
+narrowed_kind (Below k) = Below k
+narrowed_kind (Exact k a) = Exact k a
+
+abbrev pub narrowed : Cond → Cond
+narrowed c = record c { kind = narrowed_kind c.kind }
