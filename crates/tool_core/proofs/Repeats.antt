@@ -92,11 +92,11 @@ same_open checked c d p q (inr (inr same)) = same
 
 verdict_once : (checked : CheckedTest) (a b : List ℕ) → IsVerdictOn checked a → IsVerdictOn checked b
     → AreVerdictsOfOne a b
-verdict_once checked a b (forbidden one are e) (forbidden other also f) =
+verdict_once checked a b (forbidden one are ruled e) (forbidden other also too f) =
     inr (record { cycles = one; is = e }, record { cycles = other; is = f })
-verdict_once checked a b (forbidden cycles are e) (opened c first f) =
+verdict_once checked a b (forbidden cycles are ruled e) (opened c first f) =
     absurd (has_cycle checked c first (cycle_of checked cycles c are first.there))
-verdict_once checked a b (opened c first e) (forbidden cycles are f) =
+verdict_once checked a b (opened c first e) (forbidden cycles are ruled f) =
     absurd (has_cycle checked c first (cycle_of checked cycles c are first.there))
 verdict_once checked a b (opened c one e) (opened d other f) =
     let order : (c < d) ⊎ ((d < c) ⊎ (c ≡ d)) = grind (arith) in
