@@ -3,7 +3,7 @@
 iwp2.*: Intel's white paper on memory ordering (2007). amd*: the tests of AMD's manual, n*: those of the x86-TSO papers (Owens, Sarkar,
 Sewell, TPHOLs 2009; Sewell and others, CACM 2010). The others have the names of the diy tool (Alglave, Maranget, Tautschnig, TOPLAS 2014).
 Where a final value of memory is asked for, a thread more reads the location: its two reads tell the order of the writes. Such a test's name
-ends with `+obs`. All were written down here by hand."""
+ends with `+obs`. They were written down from memory, with no paper at hand: n1, n3, n4 and n8 are left out for that reason."""
 import collections
 
 Named = collections.namedtuple("Named", "name text is_allowed")
