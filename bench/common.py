@@ -1,5 +1,6 @@
-"""What the benchmarks share: the two built programs, and runs of them that are timed."""
+"""What the benchmarks share: the two built programs, runs of them that are timed, and pages whose commands are run."""
 import os
+import re
 import subprocess
 import sys
 import tempfile
@@ -80,3 +81,29 @@ def peak(words, text, program=PERPLE):
                 break
         child.wait()
         return most
+
+
+def commands(path):
+    """The commands of a page, each with the lines that it prints."""
+    with open(path) as page:
+        for block in re.findall(r"```console\n(.*?)```", page.read(), re.S):
+            for command in re.split(r"^\$ ", block, flags=re.M)[1:]:
+                words, _, printed = command.partition("\n")
+                yield words, printed
+
+
+def fits(printed, out):
+    """Whether this was printed; on a page `..` stands for what depends on the schedule."""
+    pattern = ".*".join(re.escape(part) for part in printed.split(".."))
+    return re.fullmatch(pattern, out) is not None
+
+
+def follow(path, folder, shell=("bash", "-c"), env=None):
+    """Does what a page says, and tells how many commands it has."""
+    count = 0
+    for words, printed in commands(path):
+        ran = subprocess.run([*shell, words], cwd=folder, capture_output=True, text=True, check=False, env=env)
+        if not fits(printed, ran.stdout + ran.stderr):
+            sys.exit("$ %s\nprinted\n%s%snot\n%s" % (words, ran.stdout, ran.stderr, printed))
+        count += 1
+    return count

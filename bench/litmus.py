@@ -11,22 +11,26 @@ KINDS = ("NotX86", "Header", "Initial", "NonZeroInitial", "Column", "Instruction
 PROFILE = ("NoSuchThread", "NotLoaded", "NoStore", "Ambiguous", "ZeroStored", "NoWriter", "SeveralWriters", "OwnWriter")
 TOKEN = re.compile(rb"(?P<name>[A-Za-z_][A-Za-z0-9_]*)|(?P<number>[0-9]+)|(?P<both>/\\)|(?P<either>\\/)|(?P<symbol>[()\[\]{};|,:=$~])")
 
-Token = collections.namedtuple("Token", "kind text line")
+Token = collections.namedtuple("Token", "kind text line at")
 Action = collections.namedtuple("Action", "kind loc value reg")  # kind: store, load, fence, exchange
-Atom = collections.namedtuple("Atom", "thread reg value")
+Atom = collections.namedtuple("Atom", "thread reg value at")
 Kind = collections.namedtuple("Kind", "form reader column writer k a place loc")  # form: rf, fr, exact
 
 
 class Refused(Exception):
-    """A status and the line that goes with it."""
+    """A status and the line that goes with it; and where in the text its cause stands, if that is a place."""
 
-    def __init__(self, status, line):
+    def __init__(self, status, line, at=None):
         super().__init__(line)
-        self.status, self.line = status, line
+        self.status, self.line, self.at = status, line, at
 
 
-def bad(kind, line):
-    return Refused(5, "perple: line %d: kind %d %s\n" % (line, kind, KINDS[kind - 1]))
+def bad(kind, line, at=None):
+    return Refused(5, "perple: line %d: kind %d %s\n" % (line, kind, KINDS[kind - 1]), at)
+
+
+def bad_token(kind, token):
+    return bad(kind, token.line, token.at)
 
 
 def over(name, limit):
@@ -93,7 +97,7 @@ class Reader:
             else:
                 end = 0
             if end == 0:
-                raise bad(2, self.line_at(here))
+                raise bad(2, self.line_at(here), here)
             self.at = end
 
     def cut(self):
@@ -105,19 +109,19 @@ class Reader:
             if self.text.startswith(b"(*", at) and self.text.find(b"*)", at + 2) >= 0:
                 end = self.text.find(b"*)", at + 2) + 2
             elif self.text.startswith(b"(*", at):
-                tokens.append(Token("other", "(", line))
+                tokens.append(Token("other", "(", line, at))
             elif found:
                 end = found.end()
                 word = found.group().decode("ascii")
-                tokens.append(Token(word if found.lastgroup in ("symbol", "both", "either") else found.lastgroup, word, line))
+                tokens.append(Token(word if found.lastgroup in ("symbol", "both", "either") else found.lastgroup, word, line, at))
             elif self.text[at] not in b" \t\r\n":
-                tokens.append(Token("other", "", line))
+                tokens.append(Token("other", "", line, at))
             line += self.text.count(b"\n", at, end)
             at = end
         self.tokens = tokens[::-1]
 
     def peek(self):
-        return self.tokens[-1] if self.tokens else Token("end", "", self.last_line())
+        return self.tokens[-1] if self.tokens else Token("end", "", self.last_line(), None)
 
     def next(self):
         token = self.peek()
@@ -131,7 +135,7 @@ class Reader:
         while True:
             token = self.next()
             if token.kind == "end":
-                raise bad(kind, token.line)
+                raise bad_token(kind, token)
             if token.kind in ends:
                 return found, token
             found.append(token)
@@ -157,9 +161,9 @@ def read_initial(reader):
         item, end = reader.up_to((";", "}"), 3)
         shape = shape_of(item)
         if not re.fullmatch(r"(l=n|\[l\]=n|[lr]l=n|[lr]l|n:r=n|)", shape) or (shape.startswith("n") and item[0].kind == "$"):
-            raise bad(3, item[0].line)
+            raise bad_token(3, item[0])
         if shape.endswith("=n") and int(item[-1].text) != 0:
-            raise bad(4, item[0].line)
+            raise bad_token(4, item[0])
         if end.kind == "}":
             return
 
@@ -183,7 +187,7 @@ def location_number(test, token):
 def read_cell(test, t, cell):
     if not cell:
         return
-    line, shape = cell[0].line, shape_of(cell[1:])
+    shape = shape_of(cell[1:])
     mnemonic = cell[0].text.upper() if cell[0].kind == "name" else ""
     body, held = test.bodies[t], test.held[t]
     names = [token for token in cell[1:] if token.kind == "name"]
@@ -192,7 +196,7 @@ def read_cell(test, t, cell):
     numbers = [int(token.text) for token in cell if token.kind == "number"]
     if (mnemonic, shape) not in (("MOV", "[l],n"), ("MOV", "[l],r"), ("MOV", "r,[l]"), ("MOV", "r,n"), ("MFENCE", ""), ("XCHG", "[l],r"),
                                  ("XCHG", "r,[l]")) or any(number > MOST for number in numbers):
-        raise bad(6, line)
+        raise bad_token(6, cell[0])
     if shape == "":
         body.append(Action("fence", None, None, None))
         return
@@ -206,7 +210,7 @@ def read_cell(test, t, cell):
         return
     kept = ("constant", numbers[0]) if numbers else held[regs[0]]
     if kept[0] == "read":
-        raise bad(7, line)
+        raise bad_token(7, cell[0])
     if mnemonic == "MOV":
         body.append(Action("store", loc, kept[1], None))
     else:
@@ -218,19 +222,19 @@ def read_code(reader, test):
     row, end = reader.up_to((";",), 5)
     for number, cell in enumerate(cells_of(row)):
         if len(cell) != 1 or cell[0].kind != "name" or cell[0].text != "P%d" % number:
-            raise bad(5, end.line)
+            raise bad_token(5, end)
         test.bodies.append([])
         test.held.append({reg: ("constant", 0) for reg in REGISTERS})
     while True:
         token = reader.peek()
         if token.kind == "end":
-            raise bad(8, token.line)
+            raise bad_token(8, token)
         if token.kind == "~" or (token.kind == "name" and token.text in ("exists", "forall", "locations")):
             return
         row, end = reader.up_to((";",), 5)
         cells = cells_of(row)
         if len(cells) != len(test.bodies):
-            raise bad(5, end.line)
+            raise bad_token(5, end)
         for t, cell in enumerate(cells):
             read_cell(test, t, cell)
 
@@ -241,22 +245,22 @@ def read_quantifier(reader, test):
         reader.next()
         token = reader.next()
         if token.kind != "[":
-            raise bad(8, token.line)
+            raise bad_token(8, token)
         reader.up_to(("]",), 8)
     token = reader.next()
     if token.kind == "name" and token.text == "forall":
-        raise bad(9, token.line)
+        raise bad_token(9, token)
     if token.kind == "~":
         test.negated = True
         token = reader.next()
     if token.kind != "name" or token.text != "exists":
-        raise bad(8, token.line)
+        raise bad_token(8, token)
 
 
 def read_number(reader):
     token = reader.next()
     if token.kind != "number" or int(token.text) > MOST:
-        raise bad(8, token.line)
+        raise bad_token(8, token)
     return int(token.text)
 
 
@@ -264,16 +268,17 @@ def read_atom(reader):
     def expect(right):
         token = reader.next()
         if not right(token):
-            raise bad(8, token.line)
+            raise bad_token(8, token)
         return token
 
+    at = reader.peek().at
     thread = read_number(reader)
     expect(lambda token: token.kind == ":")
     reg = expect(is_register).text.lower()
     expect(lambda token: token.kind == "=")
     if reader.peek().kind == "$":
         reader.next()
-    return Atom(thread, reg, read_number(reader))
+    return Atom(thread, reg, read_number(reader), at)
 
 
 def read_condition(reader, test):
@@ -291,9 +296,9 @@ def read_condition(reader, test):
             after_both = False
             continue
         elif token.kind == "[" or (token.kind == "name" and len(reader.tokens) > 1 and reader.tokens[-2].kind == "="):
-            raise bad(10, token.line)
+            raise bad_token(10, token)
         else:
-            raise bad(8, token.line)
+            raise bad_token(8, token)
         while True:
             token = reader.next()
             if token.kind == ")" and has_either:
@@ -306,17 +311,17 @@ def read_condition(reader, test):
                 test.ends.append(len(test.atoms))
                 return
             if token.kind == "/\\" and last_has_either:
-                raise bad(11, token.line)
+                raise bad_token(11, token)
             if token.kind == "\\/":
                 if any(open_after_both) or len(test.ends) == 7:
-                    raise bad(11, token.line)
+                    raise bad_token(11, token)
                 test.ends.append(len(test.atoms))
                 if has_either:
                     has_either[-1] = True
             if token.kind in ("/\\", "\\/"):
                 after_both = token.kind == "/\\"
                 break
-            raise bad(8 if has_either or token.kind == "end" else 12, token.line)
+            raise bad_token(8 if has_either or token.kind == "end" else 12, token)
 
 
 def read(text):
@@ -368,7 +373,7 @@ def kinds(test):
             stores = test.stores(loc)
             refused = kind_number(test, atom, loc, stores)
         if refused:
-            raise Refused(6, "perple: atom %d: kind %d %s\n" % (number, refused, PROFILE[refused - 1]))
+            raise Refused(6, "perple: atom %d: kind %d %s\n" % (number, refused, PROFILE[refused - 1]), atom.at)
         writers = {t for t, _, _ in stores}
         column = test.column(atom.thread, place)
         if atom.value == 0:

@@ -1,0 +1,59 @@
+# Completion for bash of perple and perple_tool. They read a test on standard input, so a file is completed after a `<` alone.
+
+_perple_numbers() {
+    case $1 in
+    --count) COMPREPLY=($(compgen -W 'exhaustive heuristic both' -- "$2")) ;;
+    --rate) COMPREPLY=($(compgen -W '0 16 64 128 192 256' -- "$2")) ;;
+    --buffer) COMPREPLY=($(compgen -W '1 2 4 8 16' -- "$2")) ;;
+    --order | --seed) COMPREPLY=($(compgen -W '0 1 2 3 4 5 6 7 8 9' -- "$2")) ;;
+    --cut) COMPREPLY=($(compgen -W '1 4096 65536' -- "$2")) ;;
+    *) return 1 ;;
+    esac
+}
+
+# the options that were not given yet: none may be given twice
+_perple_options() {
+    local left='' option
+    for option in $1; do
+        case " ${COMP_WORDS[*]:1:COMP_CWORD-1} " in
+        *" $option "*) ;;
+        *) left="$left $option" ;;
+        esac
+    done
+    COMPREPLY=($(compgen -W "$left" -- "$2"))
+}
+
+_perple() {
+    local word=${COMP_WORDS[COMP_CWORD]} before=${COMP_WORDS[COMP_CWORD - 1]} options='--count --rate --buffer --seed --cut'
+    COMPREPLY=()
+    if [ "$COMP_CWORD" -eq 1 ]; then
+        COMPREPLY=($(compgen -W 'run replay convert demo' -- "$word"))
+        return
+    fi
+    case ${COMP_WORDS[1]} in
+    run | replay) ;;
+    *) return ;;
+    esac
+    [ "${COMP_WORDS[1]}" = run ] || options="$options --order"
+    _perple_numbers "$before" "$word" && return
+    if [ "$COMP_CWORD" -eq 2 ] && [ -z "$word" ]; then
+        COMPREPLY=($(compgen -W '1 10 100 1000 10000 100000' -- "$word"))
+        return
+    fi
+    _perple_options "$options" "$word"
+}
+
+_perple_tool() {
+    local word=${COMP_WORDS[COMP_CWORD]}
+    COMPREPLY=()
+    if [ "$COMP_CWORD" -eq 1 ]; then
+        COMPREPLY=($(compgen -W 'judge order witness verdict show faithful skew' -- "$word"))
+        return
+    fi
+    case ${COMP_WORDS[1]} in
+    witness | skew) [ "$COMP_CWORD" -ne 2 ] || COMPREPLY=($(compgen -W '1 10 100 1000 10000 100000' -- "$word")) ;;
+    esac
+}
+
+complete -F _perple perple
+complete -F _perple_tool perple_tool
