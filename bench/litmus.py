@@ -13,7 +13,7 @@ TOKEN = re.compile(rb"(?P<name>[A-Za-z_][A-Za-z0-9_]*)|(?P<number>[0-9]+)|(?P<bo
 
 Token = collections.namedtuple("Token", "kind text line at")
 Action = collections.namedtuple("Action", "kind loc value reg")  # kind: store, load, fence, exchange
-Atom = collections.namedtuple("Atom", "thread reg value at")
+Atom = collections.namedtuple("Atom", "thread reg value at", defaults=(None,))  # at: where it is in the text, if it is in one
 Kind = collections.namedtuple("Kind", "form reader column writer k a place loc")  # form: rf, fr, exact
 
 
