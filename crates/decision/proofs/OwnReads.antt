@@ -24,12 +24,12 @@ use Rattle.verdict.proofs.Finds.{any_found, any_among}
 -- Lists.
 
 -- the last that passes is one that is known to pass, or stands after it
-record LastFrom {X : Type 0} (p : X → Bool) (xs : List X) (y : X) (cs : List X) : Type 0 where
-  last : X
-  is : last_that p xs ≡ Some last
-  behind : (y ≡ last) ⊎ Among last cs
+pub record LastFrom {X : Type 0} (p : X → Bool) (xs : List X) (y : X) (cs : List X) : Type 0 where
+  pub last : X
+  pub is : last_that p xs ≡ Some last
+  pub behind : (y ≡ last) ⊎ Among last cs
 
-last_from : {X : Type 0} (p : X → Bool) (fs : List X) (y : X) (cs : List X) → p y ≡ true
+pub last_from : {X : Type 0} (p : X → Bool) (fs : List X) (y : X) (cs : List X) → p y ≡ true
     → LastFrom p (fs ++ y ∷ cs) y cs
 last_from p fs y cs h = go (last_that p cs) refl
   where
@@ -52,11 +52,11 @@ zip_from_map f (x ∷ xs) (y ∷ ys) e =
 
 -- Each store of an iteration is made once, and reaches memory once.
 
-abbrev same_turn : Event → Event → Bool
+abbrev pub same_turn : Event → Event → Bool
 same_turn a b = (a.place == b.place) && (a.iteration == b.iteration)
 
 -- of two events of a thread that pass, the first in front of the second
-in_front : (E : Event → Event → Bool) (q : Event → Bool) (t : ℕ) (before : List Event) (e : Event) (after : List Event)
+pub in_front : (E : Event → Event → Bool) (q : Event → Bool) (t : ℕ) (before : List Event) (e : Event) (after : List Event)
     (d : Event)
     → Apart E (filter q (part_of t (before ++ e ∷ after))) → e.thread ≡ t → q e ≡ true
     → Among d before → d.thread ≡ t → q d ≡ true → E d e ≡ false
@@ -73,14 +73,14 @@ in_front E q t before e after d apart et eq a dt dq =
     (record { front = []; rest = after; whole = refl }) et eq
 
 -- deeds of a thread
-deeds_turn : (test : LitmusTest) (n t : ℕ) (run : List Event) → Performs test n t (part_of t run)
+pub deeds_turn : (test : LitmusTest) (n t : ℕ) (run : List Event) → Performs test n t (part_of t run)
     → Apart same_turn (deeds t run)
 deeds_turn test n t run h =
     apart_zip (Fills t) same_slot same_turn (λ a b c d f g e. rw (f.place, g.place, f.iteration, g.iteration) e)
     (slots_of_loop (body_of test t) n) (deeds t run) h (loop_apart (body_of test t) n)
 
 -- writes to memory of a thread
-writes_turn : (test : LitmusTest) (n t : ℕ) (run : List Event) → IsRunOf test n run → t < length test.bodies
+pub writes_turn : (test : LitmusTest) (n t : ℕ) (run : List Event) → IsRunOf test n run → t < length test.bodies
     → Apart same_turn (filter (comes_out true) (part_of t run))
 writes_turn test n t run r below =
     let fed = filter (goes_in true) (part_of t run) in
@@ -98,14 +98,14 @@ writes_turn test n t run r below =
     ) g)
     fed drawn (zip_from_map (write_of test) fed drawn (queue_whole test n run true t r)) in_order
 
-turn : (a b : Event) → a.place ≡ b.place → a.iteration ≡ b.iteration → same_turn a b ≡ true
+pub turn : (a b : Event) → a.place ≡ b.place → a.iteration ≡ b.iteration → same_turn a b ≡ true
 turn a b p i =
     and_from (a.place == b.place) (a.iteration == b.iteration) (eq-eqb a.place b.place p)
     (eq-eqb a.iteration b.iteration i)
 
 -- What waits.
 
-pending_from : (test : LitmusTest) (t x : ℕ) (before : List Event) (d : Event) → Pending test t x before d
+pub pending_from : (test : LitmusTest) (t x : ℕ) (before : List Event) (d : Event) → Pending test t x before d
     → is_pending test t x before d ≡ true
 pending_from test t x before d p =
     let drained = list_any (λ c. is_drain c && same_store c d) before in
@@ -116,7 +116,7 @@ pending_from test t x before d p =
     (not_from_false drained p.waits)
 
 -- the deed of what a read takes stands before it
-deed_of_write : (test : LitmusTest) (n : ℕ) (before rest : List Event) (d : Event) → IsRunOf test n (before ++ rest)
+pub deed_of_write : (test : LitmusTest) (n : ℕ) (before rest : List Event) (d : Event) → IsRunOf test n (before ++ rest)
     → Among d before → is_memory_kind d.kind ≡ true → HasDeed d.thread d.place d.iteration before
 deed_of_write test n before rest d r a m = go (is_drain d) refl
   where
@@ -127,7 +127,7 @@ deed_of_write test n before rest d r a m = go (is_drain d) refl
         has_in d before a (has_also q (push_no_drain q.event.kind q.is))
 
 -- no two events of one turn that pass, one after the other
-twice : (q : Event → Bool) (t : ℕ) (fs : List Event) (y : Event) (cs after : List Event) (c d : Event)
+pub twice : (q : Event → Bool) (t : ℕ) (fs : List Event) (y : Event) (cs after : List Event) (c d : Event)
     → Apart same_turn (filter q (part_of t ((fs ++ y ∷ cs) ++ after))) → Among c fs → Among d cs → c.thread ≡ t
     → d.thread ≡ t
     → q c ≡ true → q d ≡ true → c.place ≡ d.place → c.iteration ≡ d.iteration → ⊥

@@ -117,7 +117,7 @@ first_only test x v m s (Some o) h e k =
     and_from ((o.thread == s.thread) && (o.place == s.place)) (o.iteration == m) p.0
     (eq-eqb o.iteration m (omega arith))
 
-within_once : (test : LitmusTest) (run : List Event) (kind : AtomKind) → IsRunOf test 1 run → Tells test kind
+pub within_once : (test : LitmusTest) (run : List Event) (kind : AtomKind) → IsRunOf test 1 run → Tells test kind
     → holds_in test run (zeros test) kind ≡ true → holds_within test run (zeros test) kind ≡ true
 within_once test run (Rf t column writer place) r tells h =
     let l = thread_below test t tells.place tells.action tells.reader.stands in

@@ -29,22 +29,22 @@ use Rattle.litmus_outcomes.specs.Machine.{Action, Writes, Drains, Reads, Fences,
 use Rattle.litmus_outcomes.specs.Outcome.{Does, HasOutcome, IsExecution, IsPossible, done_by, value_of}
 use Rattle.litmus_outcomes.proofs.Exploring.{may_end, no_end_from}
 
-abbrev code : List Instr → Held → Held → Code
+abbrev pub code : List Instr → Held → Held → Code
 code actions a b = record {
   actions = actions;
   registers = a ∷ b ∷ held.Constant 0 ∷ held.Constant 0 ∷ held.Constant 0 ∷ held.Constant 0 ∷ [];
 }
 
-abbrev writer : ℕ → Code
+abbrev pub writer : ℕ → Code
 writer v = code (instr.Store 0 v ∷ []) (held.Constant 0) (held.Constant 0)
 
-abbrev reader : Code
+abbrev pub reader : Code
 reader = code (instr.Load Eax 0 ∷ instr.Load Ebx 0 ∷ []) (held.Read 0) (held.Read 1)
 
-abbrev atom : ℕ → Reg → ℕ → Atom
+abbrev pub atom : ℕ → Reg → ℕ → Atom
 atom t reg v = record { thread = t; reg = reg; value = v }
 
-abbrev readers : LitmusTest
+abbrev pub readers : LitmusTest
 readers = record {
   name = [];
   locations = [] ∷ [];
@@ -54,23 +54,23 @@ readers = record {
   ends = 4 ∷ [];
 }
 
-abbrev readers_kinds : List AtomKind
+abbrev pub readers_kinds : List AtomKind
 readers_kinds = Rf 2 0 0 0 ∷ Rf 2 1 1 0 ∷ Rf 3 0 1 0 ∷ Rf 3 1 0 0 ∷ []
 
 are_kinds : AreKinds readers readers_kinds
 are_kinds = (refl, (refl, (refl, (refl, tt))))
 
 -- P3's second read takes what P0 stores in its second iteration
-abbrev twice : List Event
+abbrev pub twice : List Event
 twice =
     at 0 0 0 Push ∷ at 0 0 0 Drain ∷ at 2 0 0 (Read 1) ∷ at 1 0 0 Push ∷ at 1 0 0 Drain ∷ at 2 0 1 (Read 2)
     ∷ at 3 0 0 (Read 2) ∷ at 0 1 0 Push ∷ at 0 1 0 Drain ∷ at 3 0 1 (Read 3) ∷ at 1 1 0 Push ∷ at 1 1 0 Drain
     ∷ at 2 1 0 (Read 4) ∷ at 2 1 1 (Read 4) ∷ at 3 1 0 (Read 4) ∷ at 3 1 1 (Read 4) ∷ []
 
-twice_is : IsRunOf readers 2 twice
+pub twice_is : IsRunOf readers 2 twice
 twice_is = run_by readers 2 twice assumption
 
-twice_holds : list_all (holds_in readers twice (0 ∷ 0 ∷ 0 ∷ 0 ∷ [])) readers_kinds ≡ true
+pub twice_holds : list_all (holds_in readers twice (0 ∷ 0 ∷ 0 ∷ 0 ∷ [])) readers_kinds ≡ true
 twice_holds = refl
 
 -- what each thread does where the outcome is had
@@ -155,7 +155,7 @@ are_held =
     reads_held =
         All-from_recursion (IsHeld reader.actions) reader.registers (refl, (refl, (tt, (tt, (tt, (tt, tt))))))
 
-readers_checked : IsChecked (record { test = readers; kinds = readers_kinds })
+pub readers_checked : IsChecked (record { test = readers; kinds = readers_kinds })
 readers_checked = record {
   kinds = are_kinds;
   test =
