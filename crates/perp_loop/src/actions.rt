@@ -15,8 +15,8 @@ use tso_words::Port;
 use x86_subset::Instr;
 
 /// How many writes are drained before an action.
-pub(crate) fn due(action: Instr, asks: bool, len: usize, capacity: u32) -> usize
-    requires { 1 ≤ capacity }
+pub fn due(action: Instr, asks: bool, len: usize, capacity: u32) -> usize
+    requires room { 1 ≤ capacity }
     ensures value { result ≡ drains_due (kind_as action 0) capacity asks len }
     ensures fits { result ≤ len }
 {
@@ -128,7 +128,7 @@ pub(crate) fn take_turn<P: Port>(
 }
 
 /// The iteration of the first action, in a loop of a body of this length. A loop without actions is at its end.
-pub(crate) fn first_iteration(len: usize, iterations: u32) -> u32
+pub fn first_iteration(len: usize, iterations: u32) -> u32
     ensures first { result * len ≡ 0 }
     ensures stands { IsPosition iterations len result 0 }
 {
@@ -136,7 +136,7 @@ pub(crate) fn first_iteration(len: usize, iterations: u32) -> u32
 }
 
 /// Where the next action stands, by its iteration and place, in a body of this length.
-pub(crate) fn next_position(iteration: u32, place: usize, len: usize) -> (u32, usize)
+pub fn next_position(iteration: u32, place: usize, len: usize) -> (u32, usize)
     requires place { place < len }
     requires short { len ≤ MOST_ACTIONS }
     requires iteration { iteration < MOST_ITERATIONS }

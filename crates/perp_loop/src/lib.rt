@@ -26,9 +26,11 @@ mod threads;
 mod walker;
 mod went;
 
+pub use actions::{due, first_iteration, next_position};
 pub use crew::Crew;
 pub use gate::{Gate, NoGate};
 pub use perp_base::{Options, Schedule};
+pub use picks::{first_words, pick};
 pub use replaying::replay;
 pub use threads::run_threads;
 pub use walker::Walker;

@@ -12,8 +12,8 @@ use rand_core::{Rng, SeedableRng};
 use rand_xoshiro::Xoshiro256PlusPlus;
 
 /// The schedule's generator, before its first word.
-pub(crate) fn first_words(schedule: Schedule) -> Xoshiro256PlusPlus
-    ensures { IsAtTurn schedule 0 result }
+pub fn first_words(schedule: Schedule) -> Xoshiro256PlusPlus
+    ensures at { IsAtTurn schedule 0 result }
 {
     match schedule {
         Schedule::Turns => Xoshiro256PlusPlus::seed_from_u64(0),
@@ -64,7 +64,7 @@ fn by_word(generator: &mut Xoshiro256PlusPlus, seed: u64, left: &[u32]) -> Optio
 }
 
 /// The thread that takes the next turn, if any is playing.
-pub(crate) fn pick(
+pub fn pick(
     schedule: Schedule,
     generator: &mut Xoshiro256PlusPlus,
     from: u32,
