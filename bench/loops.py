@@ -1,13 +1,15 @@
 """A plain C program that runs the same loops as `perple run`, which the benchmarks stand it beside: one thread a location, each of which
 stores to its own and reads the next one's, through a store buffer of eight writes in software that drains by the same rule (a word
 of Xoshiro256++ an action, at 64 of 256), over sequentially consistent atomics, into logs. Its threads meet before their first
-iteration as those of the real program do."""
+iteration as those of the real program do. Started with `job`, it does the whole job of `run N --count heuristic`: it reads such a test
+from its input, takes threads, locations and the condition from it, runs, picks a frame for each iteration, tests it, and writes the
+report with a line for each hit."""
 import os
 import shutil
 import subprocess
 
 # Words: the threads, the iterations. Output: the microseconds of the threads' loops, those of all with the count of two threads'
-# frames, and the frames that hit.
+# frames, and the frames that hit. Or the words `job` and the iterations: the report.
 SOURCE = r"""
 #include <pthread.h>
 #include <sched.h>
@@ -15,8 +17,10 @@ SOURCE = r"""
 #include <stdint.h>
 #include <stdio.h>
 #include <stdlib.h>
+#include <string.h>
 #include <time.h>
 enum { MOST_THREADS = 8, MOST_ACTIONS = 16, CAPACITY = 8, RATE = 64, MOST_LOOKS = 5000, QUICK_LOOKS = 1000 };
+enum { MOST_TEXT = 65536, MOST_ATOMS = 32 };
 enum kind { STORE, LOAD };
 struct action { enum kind kind; uint32_t loc; };
 struct entry { uint64_t value; uint32_t loc; };
@@ -99,11 +103,109 @@ static double microseconds(void) {
     return t.tv_sec * 1e6 + t.tv_nsec / 1e3;
 }
 
-int main(int count, char **words) {
-    uint64_t *logs[MOST_THREADS], hits = 0;
+
+static void run_all(void) {
     pthread_t made[MOST_THREADS];
-    threads = atoi(words[1]);
-    iterations = strtoull(words[2], 0, 10);
+    for (int t = 1; t < threads; t++) pthread_create(&made[t], 0, walk, &walkers[t]);
+    walk(&walkers[0]);
+    for (int t = 1; t < threads; t++) pthread_join(made[t], 0);
+}
+
+/* What the text says: one store and one load a thread, locations of one letter, a condition of registers that are 0. */
+static char text[MOST_TEXT + 1], name[64];
+static struct { int reader, writer; } atoms[MOST_ATOMS];
+static int atom_count;
+
+static int find_all(int *threads_of, enum kind kind) {
+    int found = 0;
+    for (char *at = strstr(text, "P0"); (at = strchr(at, '[')) != 0; at++) {
+        int stores = at[2] == ']' && at[3] == ',';
+        if ((kind == STORE) == stores) threads_of[found++] = at[1];
+    }
+    return found;
+}
+
+static void read_text(void) {
+    int stored[MOST_THREADS], loaded[MOST_THREADS];
+    text[fread(text, 1, MOST_TEXT, stdin)] = 0;
+    sscanf(text, "X86 %63s", name);
+    threads = find_all(stored, STORE);
+    find_all(loaded, LOAD);
+    for (int t = 0; t < threads; t++) {
+        walkers[t].body[0] = (struct action){STORE, stored[t] % 16};
+        walkers[t].body[1] = (struct action){LOAD, loaded[t] % 16};
+        walkers[t].length = 2;
+    }
+    for (char *at = strstr(text, "exists"); (at = strstr(at, ":EAX=0")) != 0; at++) {
+        int reader = at[-1] - '0', writer = 0;
+        while (walkers[writer].body[0].loc != walkers[reader].body[1].loc) writer++;
+        atoms[atom_count].reader = reader;
+        atoms[atom_count++].writer = writer;
+    }
+}
+
+/* The frame that iteration i of the base picks: each atom, the first that can, chooses its writer's iteration. */
+static void pick(uint64_t *const *logs, uint64_t i, uint64_t *frame) {
+    unsigned chosen = 1u << atoms[0].reader;
+    for (int a = 1; a < atom_count; a++)
+        if (atoms[a].reader < atoms[0].reader) chosen = 1u << atoms[a].reader;
+    for (int t = 0; t < threads; t++) frame[t] = i;
+    for (int a = 0; a < atom_count;) {
+        int r = atoms[a].reader, w = atoms[a].writer;
+        if ((chosen >> r & 1) && !(chosen >> w & 1)) {
+            uint64_t value = logs[r][frame[r]];
+            frame[w] = value < iterations ? value : iterations - 1;
+            chosen |= 1u << w;
+            a = 0;
+        } else {
+            a++;
+        }
+    }
+}
+
+static int hits_at(uint64_t *const *logs, const uint64_t *frame) {
+    for (int a = 0; a < atom_count; a++)
+        if (logs[atoms[a].reader][frame[atoms[a].reader]] >= frame[atoms[a].writer] + 1) return 0;
+    return 1;
+}
+
+static char *put_number(char *at, uint64_t n) {
+    char digits[20];
+    int count = 0;
+    do digits[count++] = '0' + n % 10; while (n /= 10);
+    while (count > 0) *at++ = digits[--count];
+    return at;
+}
+
+static int do_job(void) {
+    uint64_t *logs[MOST_THREADS], frame[MOST_THREADS], hits = 0;
+    read_text();
+    for (int t = 0; t < threads; t++) {
+        logs[t] = walkers[t].log = malloc(iterations * 8);
+        seed(walkers[t].words, t);
+    }
+    run_all();
+    char *lines = malloc(iterations * (5 + 7 * threads)), *end = lines;
+    for (uint64_t i = 0; i < iterations; i++) {
+        pick(logs, i, frame);
+        if (!hits_at(logs, frame)) continue;
+        hits++;
+        memcpy(end, "Hit", 3);
+        end += 3;
+        for (int t = 0; t < threads; t++) {
+            *end++ = ' ';
+            end = put_number(end, frame[t]);
+        }
+        *end++ = '\n';
+    }
+    printf("Test %s\nThreads %d\nIterations %llu\nHeuristic %llu\n", name, threads, (unsigned long long)iterations,
+           (unsigned long long)hits);
+    fwrite(lines, 1, end - lines, stdout);
+    return 0;
+}
+
+static int time_loops(void) {
+    uint64_t *logs[MOST_THREADS], hits = 0;
     for (int t = 0; t < threads; t++) {
         logs[t] = walkers[t].log = malloc(iterations * 8);
         seed(walkers[t].words, t);
@@ -112,9 +214,7 @@ int main(int count, char **words) {
         walkers[t].length = 2;
     }
     double start = microseconds();
-    for (int t = 1; t < threads; t++) pthread_create(&made[t], 0, walk, &walkers[t]);
-    walk(&walkers[0]);
-    for (int t = 1; t < threads; t++) pthread_join(made[t], 0);
+    run_all();
     double walked = microseconds();
     if (threads == 2 && iterations <= 10000)
         for (uint64_t i = 0; i < iterations; i++)
@@ -122,6 +222,13 @@ int main(int count, char **words) {
                 hits += (logs[0][i] < j + 1) & (logs[1][j] < i + 1);
     printf("%.0f %.0f %llu\n", walked - start, microseconds() - start, (unsigned long long)hits);
     return 0;
+}
+
+int main(int count, char **words) {
+    iterations = strtoull(words[2], 0, 10);
+    if (strcmp(words[1], "job") == 0) return do_job();
+    threads = atoi(words[1]);
+    return time_loops();
 }
 """
 
@@ -194,3 +301,9 @@ def run(program, threads, iterations):
     """The three numbers of its output."""
     ran = subprocess.run([program, str(threads), str(iterations)], capture_output=True, check=True)
     return [int(word) for word in ran.stdout.split()]
+
+
+def job(program, text, iterations):
+    """What the whole job writes."""
+    ran = subprocess.run([program, "job", str(iterations)], input=text, capture_output=True, check=True)
+    return ran.stdout
