@@ -1,7 +1,7 @@
 //! The report of a run or a replay, and that of a count, a function for each kind of line.
 ghost use Rattle.std.specs.Prelude.{◌≡◌, ◌⊎◌, ◌↔◌, ◌++◌, OnOk, IfOk, IsSome, string_bytes, option_map};
 ghost use Rattle.std.specs.Str.{IsAscii};
-ghost use Rattle.report_text.specs.Report.{rows_of, condition_line, asked_line, entries_text, hit_line, hit_lines, heuristic_lines, is_seen, seen_line, test_lines, head_lines, count_lines, report_of, count_report_of};
+ghost use Rattle.report_text.specs.Report.{rows_of, condition_line, asked_line, entries_text, hit_line, hit_lines, heuristic_lines, is_seen, seen_line, head_lines, count_lines, report_of, count_report_of};
 
 use crate::rows::{CountReport, Report};
 use crate::words::{push_number, push_test};
@@ -84,28 +84,23 @@ fn push_seen(out: &mut String, seen: bool) -> Result<(), NoMemory>
     Ok(())
 }
 
-#[tactic(auto, unfolding(crate::specs::Report::test_lines))]
-fn push_run(
+#[tactic(auto, unfolding(crate::specs::Report::head_lines))]
+fn push_head(
     out: &mut String,
     name: &Name,
     threads: u32,
     iterations: u32,
+    negated: bool,
+    atoms: u32,
 ) -> Result<(), NoMemory>
     requires { IsAscii name.now }
-    ensures { OnOk result (string_bytes out.new ≡ string_bytes out.old ++ test_lines name.now threads iterations) }
+    ensures { OnOk result (string_bytes out.new ≡ string_bytes out.old
+        ++ head_lines name.now threads iterations negated atoms) }
 {
     push_test(out, name)?;
     push_number(out, "Threads", u64::from(threads))?;
-    push_number(out, "Iterations", u64::from(iterations))
-}
-
-#[tactic(auto, unfolding(crate::specs::Report::head_lines))]
-fn push_head(out: &mut String, rows: &Report) -> Result<(), NoMemory>
-    requires { IsAscii rows.now.name }
-    ensures { OnOk result (string_bytes out.new ≡ string_bytes out.old ++ head_lines (rows_of rows.now)) }
-{
-    push_run(out, &rows.name, rows.threads, rows.iterations)?;
-    push_condition(out, rows.negated, rows.atoms)
+    push_number(out, "Iterations", u64::from(iterations))?;
+    push_condition(out, negated, atoms)
 }
 
 #[tactic(auto, unfolding(crate::specs::Report::count_lines))]
@@ -136,7 +131,14 @@ pub fn report(alloc: Global, rows: &Report) -> Result<String, NoMemory>
     ensures { IfOk result (λ text. string_bytes text ≡ report_of (rows_of rows.now)) }
 {
     let mut out = String::new(alloc);
-    push_head(&mut out, rows)?;
+    push_head(
+        &mut out,
+        &rows.name,
+        rows.threads,
+        rows.iterations,
+        rows.negated,
+        rows.atoms,
+    )?;
     push_counts(&mut out, rows)?;
     push_seen(&mut out, was_seen(rows))?;
     Ok(out)
@@ -149,8 +151,14 @@ pub fn count_report(alloc: Global, rows: &CountReport) -> Result<String, NoMemor
     ensures { IfOk result (λ text. string_bytes text ≡ count_report_of rows.now) }
 {
     let mut out = String::new(alloc);
-    push_run(&mut out, &rows.name, rows.threads, rows.iterations)?;
-    push_condition(&mut out, rows.negated, rows.atoms)?;
+    push_head(
+        &mut out,
+        &rows.name,
+        rows.threads,
+        rows.iterations,
+        rows.negated,
+        rows.atoms,
+    )?;
     push_number(&mut out, "Frames", rows.frames)?;
     push_number(&mut out, "Within", rows.within)?;
     push_seen(&mut out, rows.within > 0)?;
