@@ -14,13 +14,12 @@ use Rattle.clap.specs.declared.parser.matches.ArgMatches.{ArgMatches}
 use Rattle.clap.proofs.WalkLemmas.{first_value-rows}
 use Rattle.clap.specs.declared.error.Error.{Error}
 use Rattle.clap.specs.declared.error.kind.ErrorKind.TheVariants as kind
-use Rattle.command_words.specs.Clap.{app_for, count_arg, option_arg}
-use Rattle.command_words.specs.Words.{Given, Text, is_among, is_stray, job_in, job_of, value_given}
-use Rattle.command_words.specs.Job.{Asked}
+use Rattle.command_words.specs.Clap.{HasNoNumber, IsRead, app_for, count_arg, option_arg}
+use Rattle.command_words.specs.Words.{Given, Text, is_among, is_stray, value_given}
 use Rattle.command_words.proofs.Rows.{count_rule, first_for, option_rule, rules_for, shape_for}
 use Rattle.command_words.proofs.Turns.{stand}
 use Rattle.command_words.proofs.Parse.{Agrees, AllShaped, parse, reads, rest_fault, rest_rows}
-use Rattle.command_words.proofs.JobLemmas.{all_shaped, job-reads}
+use Rattle.command_words.proofs.JobLemmas.{all_shaped, given_read, number_unread}
 
 abbrev unbuilt_of_rules : Text → List Rule → App
 unbuilt_of_rules name rules = record {
@@ -127,31 +126,31 @@ module _ (name : Text) (names : List Text) (no_N : is_among (codes "N") names �
   agrees : AllShaped (drop 1 words) → Agrees fault_after rows_after_words (reads names (drop 1 words) [] None)
   agrees all = parse name names no_N (drop 1 words) all [] None [] None 1 (refl, refl, refl)
 
-  -- where clap takes the words, the job is that of its matches
+  -- where clap takes the words, its matches are the values that they give
   pub taken : AllShaped (drop 1 words) → fault_of (app_for name names) words ≡ []
       → (value_of : Text → Option Text) → ((id : Text)
       → value_of id ≡ first_of id (matches_of (app_for name names) words))
-      → job_of value_of ≡ job_in names (drop 1 words)
-  taken all none value_of is =
-      go (reads names (drop 1 words) [] None) (agrees all) ∙ sym (job-reads names (drop 1 words))
+      → IsRead names (drop 1 words) value_of
+  taken all none value_of is = go (reads names (drop 1 words) [] None) refl (agrees all)
     where
-      go : (o : Option (List Given)) → Agrees fault_after rows_after_words o
-          → job_of value_of ≡ option_and_then (λ gs. job_of (value_given gs)) o
-      go None h = absurd (h (sym fault_is ∙ none))
-      go (Some gs) h =
-          let same : (id : Text) → value_of id ≡ value_given gs id = λ id. is id ∙ ap (first_of id) (matches_are ∙ h.1)
-          ∙ first_for gs id in
-          ap job_of (λ i id. same id i)
+      go : (o : Option (List Given)) → reads names (drop 1 words) [] None ≡ o → Agrees fault_after rows_after_words o
+          → IsRead names (drop 1 words) value_of
+      go None e h = absurd (h (sym fault_is ∙ none))
+      go (Some gs) e h = record {
+        gs = gs;
+        given = given_read names (drop 1 words) gs e;
+        values = λ id. is id ∙ ap (first_of id) (matches_are ∙ h.1) ∙ first_for gs id;
+      }
 
-  -- where clap refuses the words for another cause than memory, there is no job
+  -- where clap refuses the words for another cause than memory, they give no number
   pub refused : AllShaped (drop 1 words) → (e : Error) → HasKind (fault_of (app_for name names) words) e
-      → (kind_of e ≡ kind.OutOfMemory → ⊥) → job_in names (drop 1 words) ≡ None
+      → (kind_of e ≡ kind.OutOfMemory → ⊥) → HasNoNumber names (drop 1 words)
   refused all e has other =
-      job-reads names (drop 1 words) ∙ go (reads names (drop 1 words) [] None) (agrees all)
-      (subst (λ (k : Kinds). HasKind k e) fault_is has)
+      number_unread names (drop 1 words) (go (reads names (drop 1 words) [] None) (agrees all)
+      (subst (λ (k : Kinds). HasKind k e) fault_is has))
     where
       go : (o : Option (List Given)) → Agrees fault_after rows_after_words o → HasKind fault_after e
-          → option_and_then (λ gs. job_of (value_given gs)) o ≡ None
+          → o ≡ None
       go None h has = refl
       go (Some gs) h (inl memory) = absurd (other memory)
       go (Some gs) h (inr among) = absurd (subst (λ (k : Kinds). IsAmong (kind_of e) k) h.0 among)
@@ -160,21 +159,21 @@ module _ (name : Text) (names : List Text) (no_N : is_among (codes "N") names �
 
 module _ (c : Command) (name : Text) (names : List Text) (no_N : is_among (codes "N") names ≡ false) (words : List Text)
     (app : app_of c ≡ app_for name names) (no_stray : list_any is_stray (drop 1 words) ≡ false) where
-  pub taken_job : (m : ArgMatches) (job : Option Asked)
+  pub taken_values : (m : ArgMatches)
       → (is_simple_and_free (app_of c) ≡ true → fault_of (app_of c) words ≡ []) → HasMatchesOf (app_of c) words m
-      → job ≡ job_of (first_value (found_of m)) → job ≡ job_in names (drop 1 words)
-  taken_job m job kinds matches is =
+      → IsRead names (drop 1 words) (first_value (found_of m))
+  taken_values m kinds matches =
       let none : fault_of (app_for name names) words ≡ [] = ap (λ a. fault_of a words) (sym app)
       ∙ kinds (ap is_simple_and_free app ∙ simple_and_free name names) in
       let rows : rows_of (found_of m) ≡ matches_of (app_for name names) words =
       (matches (ap is_simple app ∙ simple_app name names)).0 ∙ ap (λ a. matches_of a words) app in
-      is ∙ taken name names no_N words (all_shaped (drop 1 words) no_stray) none (first_value (found_of m))
+      taken name names no_N words (all_shaped (drop 1 words) no_stray) none (first_value (found_of m))
       (λ id. first_value-rows (found_of m) id ∙ ap (first_of id) rows)
 
-  pub refused_job : (e : Error) → (is_simple_and_free (app_of c) ≡ true → HasKind (fault_of (app_of c) words) e)
+  pub refused_values : (e : Error) → (is_simple_and_free (app_of c) ≡ true → HasKind (fault_of (app_of c) words) e)
       → (kind_of e ≡ kind.OutOfMemory → ⊥)
-      → job_in names (drop 1 words) ≡ None
-  refused_job e kinds other =
+      → HasNoNumber names (drop 1 words)
+  refused_values e kinds other =
       refused name names no_N words (all_shaped (drop 1 words) no_stray) e
       (subst (λ (k : Kinds). HasKind k e) (ap (λ a. fault_of a words) app)
       (kinds (ap is_simple_and_free app ∙ simple_and_free name names))) other

@@ -2,6 +2,7 @@
 use Rattle.std.proofs.Common.{◌≡◌, ◌∙◌, ◌&&◌, ℕ, Bool, codes, true, false, refl, sym, ap, List, [], ◌∷◌, Option, Some, None, option_map, if◌then◌else◌}
 use Rattle.std.specs.Prelude.{option_and_then}
 use Rattle.std.proofs.lemmas.Bool.{eqb-true}
+use Rattle.perp_base.specs.declared.options.Options.{Options}
 use Rattle.command_words.specs.Job.{Asked}
 use Rattle.command_words.specs.declared.job.Count.TheVariants.{Exhaustive}
 use Rattle.command_words.specs.Words.{Given, Text, given_by, is_hyphenated, is_number, is_option, is_once, iterations_in, job_in, job_of, number_within, value_given, with_given}
@@ -34,15 +35,15 @@ given_plain word rest plain = rw plain refl
 abbrev its_iterations : Option Asked → Option ℕ
 its_iterations job = option_map (λ (j : Asked). j.options.iterations) job
 
-abbrev usual : ℕ → Asked
-usual n = record {
-  options = record { iterations = n; seed = 0; rate = 64; buffer = 8 };
-  count = Exhaustive;
-  cut = 4096;
-  order = None;
-}
+abbrev usual : ℕ → Options
+usual n = record { iterations = n; seed = 0; rate = 64; buffer = 8 }
 
-of_usual : (o : Option ℕ) → its_iterations (option_and_then (λ n. Some (usual n)) o) ≡ o
+abbrev with_usual : Options → Asked
+with_usual options = record { options = options; count = Exhaustive; cut = 4096; order = None }
+
+of_usual : (o : Option ℕ)
+    → its_iterations (option_and_then (λ options. Some (with_usual options))
+    (option_and_then (λ n. Some (usual n)) o)) ≡ o
 of_usual None = refl
 of_usual (Some n) = refl
 
@@ -53,8 +54,8 @@ one_word word false is = rw (given_plain word [] is) (of_usual (number_within 1 
 
 -- two numbers of iterations are too many
 twice : (first second : Text) (more : Option (List Given))
-    → option_and_then (λ gs. if is_once gs then job_of (value_given gs) else None)
-    (with_given (codes "N") first (with_given (codes "N") second more)) ≡ None
+    → option_and_then (λ gs. job_of (value_given gs)) (option_and_then (λ gs. if is_once gs then Some gs else None)
+    (with_given (codes "N") first (with_given (codes "N") second more))) ≡ None
 twice first second None = refl
 twice first second (Some gs) = refl
 

@@ -1,13 +1,18 @@
 -- The names and values that the words give, read as clap reads them, make the job that the
 -- definition says.
-use Rattle.std.proofs.Common.{◌≡◌, ◌∙◌, ◌&&◌, ◌||◌, ◌++◌, Bool, cond, codes, true, false, not, refl, sym, ap, ap₂, List, [], ◌∷◌, map, drop, option_map, Option, Some, None, append-nil, append_assoc, arith, take, length, ◌-◌}
+use Rattle.std.proofs.Common.{◌≡◌, ◌∙◌, ◌&&◌, ◌||◌, ◌++◌, Bool, cond, codes, true, false, not, refl, sym, ap, ap₂, List, [], ◌∷◌, map, drop, option_map, Option, Some, None, append-nil, append_assoc, arith, take, length, ◌-◌, Result, Ok, Err, IfOk}
 use Rattle.std.proofs.lemmas.List.{take_all}
 use Rattle.clap.proofs.WalkLemmas.{list_any-map}
 use Rattle.std.specs.Prelude.{option_and_then}
 use Rattle.std.specs.List.{list_any}
 use Rattle.std.specs.Str.{bytes_eq}
 use Rattle.std.proofs.lemmas.Bool.{or_parts}
-use Rattle.command_words.specs.Words.{Given, Text, given_by, is_among, is_given, is_hyphenated, is_once, is_option, is_stray, job_in, job_of, name_in, value_given, value_in, value_then, with_given}
+use Rattle.std.proofs.lemmas.Option.{none-some}
+use Rattle.std.specs.Option.{ok_or}
+use Rattle.command_words.specs.declared.reading.WordsError.{WordsError}
+use Rattle.command_words.specs.declared.reading.WordsError.TheVariants.{Usage}
+use Rattle.command_words.specs.Clap.{HasNoNumber, IsRead}
+use Rattle.command_words.specs.Words.{Given, Text, count_of, given_by, given_in, is_among, is_given, is_hyphenated, is_once, is_option, is_stray, job_of, name_in, value_given, value_in, value_then, with_given}
 use Rattle.std.proofs.lemmas.Bool.Decides.{same_from_decides}
 use Rattle.std.proofs.lemmas.List.Folds.{list_any-append}
 use Rattle.std.proofs.lemmas.Slice.Eq.{bytes_eq-Decides}
@@ -132,36 +137,93 @@ reads-given_by names (word ∷ rest) gs (Some name) =
 
 -- ---- the job
 
-not_given : (name : Text) (gs : List Given) → is_given name gs ≡ false → value_given gs name ≡ None
+pub not_given : (name : Text) (gs : List Given) → is_given name gs ≡ false → value_given gs name ≡ None
 not_given name [] none = refl
 not_given name (g ∷ gs) none =
     let parts = or_parts _ _ none in
     let here : bytes_eq g.name name ≡ false = parts.0 in
     rw here (not_given name gs parts.1)
 
-job_joined : (gs : List Given) → cond (is_once gs) (job_of (value_given gs)) None
-    ≡ option_and_then (λ all. job_of (value_given all)) (joined [] gs)
-job_joined gs =
-    ap (λ b. cond b (job_of (value_given gs)) None) (once_is gs) ∙ go (is_fresh [] gs) (is_given (codes "N") gs) refl
-  where
-    go : (a b : Bool) → is_given (codes "N") gs ≡ b
-        → cond a (job_of (value_given gs)) None ≡ option_and_then (λ all. job_of (value_given all))
-        (cond (a && b) (Some gs) None)
-    go true true e = refl
-    go true false e = rw (not_given (codes "N") gs e) refl
-    go false b e = refl
+abbrev with_number : List Given → Option (List Given)
+with_number gs = cond (is_given (codes "N") gs) (Some gs) None
 
--- the job of the words is that of what they give
-pub job-reads : (names words : List Text) → job_in names words
-    ≡ option_and_then (λ gs. job_of (value_given gs)) (reads names words [] None)
-job-reads names words =
-    go (given_by names None words) ∙ sym (ap (option_and_then (λ gs. job_of (value_given gs)))
-    (reads-given_by names words [] None))
+number_joined : (gs : List Given) → joined [] gs ≡ option_and_then with_number (cond (is_once gs) (Some gs) None)
+number_joined gs =
+    go (is_fresh [] gs) ∙ ap (λ b. option_and_then with_number (cond b (Some gs) None)) (sym (once_is gs))
   where
-    go : (o : Option (List Given)) → option_and_then (λ gs. cond (is_once gs) (job_of (value_given gs)) None) o
-        ≡ option_and_then (λ gs. job_of (value_given gs)) (option_and_then (joined []) o)
+    go : (a : Bool) → cond (a && is_given (codes "N") gs) (Some gs) None
+        ≡ option_and_then with_number (cond a (Some gs) None)
+    go true = refl
+    go false = refl
+
+-- clap reads what the words give, where a number is among it
+pub reads-given : (names words : List Text)
+    → reads names words [] None ≡ option_and_then with_number (given_in names words)
+reads-given names words = reads-given_by names words [] None ∙ go (given_by names None words)
+  where
+    go : (o : Option (List Given)) → option_and_then (joined []) o
+        ≡ option_and_then with_number (option_and_then (λ gs. cond (is_once gs) (Some gs) None) o)
     go None = refl
-    go (Some gs) = job_joined gs
+    go (Some gs) = number_joined gs
+
+-- what is read is what the words give
+pub given_read : (names words : List Text) (gs : List Given) → reads names words [] None ≡ Some gs
+    → given_in names words ≡ Some gs
+given_read names words gs e = go (given_in names words) (sym (reads-given names words) ∙ e)
+  where
+    known : (b : Bool) (all : List Given) → cond b (Some all) None ≡ Some gs → Some all ≡ Some gs
+    known true all e = e
+    known false all e = absurd (none-some gs e)
+
+    go : (o : Option (List Given)) → option_and_then with_number o ≡ Some gs → o ≡ Some gs
+    go None e = e
+    go (Some all) e = known (is_given (codes "N") all) all e
+
+-- where nothing is read no number is given
+pub number_unread : (names words : List Text) → reads names words [] None ≡ None → HasNoNumber names words
+number_unread names words e gs given =
+    go (is_given (codes "N") gs) refl
+    (sym (reads-given names words ∙ ap (option_and_then with_number) given) ∙ e)
+  where
+    go : (b : Bool) → is_given (codes "N") gs ≡ b → with_number gs ≡ None → value_given gs (codes "N") ≡ None
+    go true is none = absurd (none-some gs (sym (rw is at none)))
+    go false is none = not_given (codes "N") gs is
+
+-- ---- what is read of the values
+
+module _ {A : Type 0} (read : (Text → Option Text) → Option A) (names words : List Text) where
+  pub read_taken : (value_of : Text → Option Text) → IsRead names words value_of
+      → read value_of ≡ option_and_then (λ gs. read (value_given gs)) (given_in names words)
+  read_taken value_of is =
+      ap read (λ i name. is.values name i)
+      ∙ sym (ap (option_and_then (λ gs. read (value_given gs))) is.given)
+
+  pub read_refused : ((value_of : Text → Option Text) → value_of (codes "N") ≡ None → read value_of ≡ None)
+      → HasNoNumber names words → option_and_then (λ gs. read (value_given gs)) (given_in names words) ≡ None
+  read_refused needs none = go (given_in names words) refl
+    where
+      go : (o : Option (List Given)) → given_in names words ≡ o → option_and_then (λ gs. read (value_given gs)) o ≡ None
+      go None is = refl
+      go (Some gs) is = needs (value_given gs) (none gs is)
+
+pub no_job : (value_of : Text → Option Text) → value_of (codes "N") ≡ None → job_of value_of ≡ None
+no_job value_of none = rw none refl
+
+pub no_count : (value_of : Text → Option Text) → value_of (codes "N") ≡ None → count_of value_of ≡ None
+no_count value_of none = rw none refl
+
+-- of what is read and of what the words are
+pub ok_read : {X : Type 0} (o p : Option X) (r : Result X WordsError) → o ≡ p → r ≡ ok_or o Usage
+    → IfOk r (λ x. p ≡ Some x)
+ok_read {X = X} (Some x) p (Ok y) e f = let same : x ≡ y = cc in sym e ∙ ap Some same
+ok_read (Some x) p (Err y) e f = tt
+ok_read {X = X} None p (Ok y) e f = let no : ◌≡◌ {A = Result X WordsError} (Ok y) (Err Usage) = f in cc
+ok_read None p (Err y) e f = tt
+
+pub none_read : {X : Type 0} (o p : Option X) (r : Result X WordsError) → o ≡ p → r ≡ ok_or o Usage → r ≡ Err Usage
+    → p ≡ None
+none_read {X = X} (Some x) p r e f g = let no : ◌≡◌ {A = Result X WordsError} (Ok x) (Err Usage) = sym f ∙ g in cc
+none_read None p r e f g = sym e
 
 -- ---- stray words
 
@@ -201,9 +263,12 @@ stray_given names (word ∷ rest) (Some name) some = go (is_hyphenated word) ref
     go false h more = rw h (rw (more (rw h at some)) refl)
     go true h more = rw h refl
 
--- a stray word names no job
-pub stray_job : (names words : List Text) → list_any is_stray words ≡ true → job_in names words ≡ None
-stray_job names words some = rw (stray_given names words None some) refl
+-- where a word is stray nothing is given
+pub stray_nothing : (names words : List Text) → list_any is_stray words ≡ true → given_in names words ≡ None
+stray_nothing names words some = rw (stray_given names words None some) refl
+
+pub stray_unread : (names words : List Text) → list_any is_stray words ≡ true → HasNoNumber names words
+stray_unread names words some gs is = absurd (none-some gs (sym (stray_nothing names words some) ∙ is))
 
 -- the words after the first, as the code tests them
 pub stray-map : {X : Type 0} (f : X → Text) (ws : List X)

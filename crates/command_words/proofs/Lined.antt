@@ -7,11 +7,14 @@ use Rattle.std.proofs.lemmas.Bool.{and_parts, eqb-true, false_from_ne_true}
 use Rattle.std.proofs.lemmas.Option.{option_and_then_some, none-some}
 use Rattle.command_words.specs.declared.job.Command.{Command}
 use Rattle.command_words.specs.declared.job.Command.TheVariants.{Run, Replay, Convert, Demo}
-use Rattle.command_words.specs.Job.{Asked}
+use Rattle.command_words.specs.declared.job.StepOrder.{StepOrder}
+use Rattle.command_words.specs.declared.job.StepOrder.TheVariants.{Threads}
+use Rattle.perp_base.specs.declared.options.Options.{Options}
+use Rattle.command_words.specs.Job.{Asked, AskedCount}
 use Rattle.command_words.specs.declared.job.Count.{Count}
 use Rattle.command_words.specs.declared.job.Count.TheVariants.{Exhaustive}
-use Rattle.command_words.specs.Words.{Given, Text, command_of, convert_in, count_named, demo_in, given_by, is_among, is_given, is_hyphenated, is_once, is_option, job_in, job_of, name_in, number_of, number_within, or_else, order_of, replay_names, run_names, value_given, value_in, value_then, with_given}
-use Rattle.command_words.specs.Lines.{AsksFor, Gives, LinesAreRead, LinesStandForOne, StandsFor, spelled, nothing, number, apart, joined, run, replay, convert, demo}
+use Rattle.command_words.specs.Words.{Given, Text, command_of, convert_in, count_in, count_named, count_names, count_of, demo_in, given_by, given_in, is_among, is_given, is_hyphenated, is_once, is_option, job_in, job_of, name_in, number_of, number_within, options_of, or_else, order_of, replay_names, run_names, step_order_named, value_given, value_in, value_then, with_given}
+use Rattle.command_words.specs.Lines.{AsksFor, AsksForCount, CountsAreRead, Gives, LinesAreRead, LinesStandForOne, StandsFor, spelled, nothing, number, apart, joined, run, replay, convert, demo}
 use Rattle.command_words.proofs.Iterations.{no_number}
 use Rattle.command_words.proofs.Rows.{same_text, text_is}
 
@@ -155,14 +158,21 @@ module _ (names : List Text) where
   sound (word ∷ rest) None gs e once = sound_word word rest gs (sound rest) e once
   sound (word ∷ rest) (Some name) gs e once = sound_value name word rest gs (sound rest) e once
 
-  asks : (words : List Text) (job : Asked) → job_in names words ≡ Some job → AsksFor names words job
-  asks words job e = option_and_then_some _ (given_by names None words) job e (λ gs is said. go gs is said (is_once gs) refl)
+  gives : (words : List Text) (gs : List Given) → given_in names words ≡ Some gs → Gives names gs words
+  gives words gs e = option_and_then_some _ (given_by names None words) gs e (λ all is said. go all is said (is_once all) refl)
     where
-      go : (gs : List Given) → given_by names None words ≡ Some gs
-          → (if is_once gs then job_of (value_given gs) else None) ≡ Some job
-          → (b : Bool) → is_once gs ≡ b → AsksFor names words job
-      go gs is said true once = record { gs = gs; gives = sound words None gs is once; numbers = rw once at said }
-      go gs is said false once = absurd (none-some job (rw once at said))
+      go : (all : List Given) → given_by names None words ≡ Some all
+          → (if is_once all then Some all else None) ≡ Some gs
+          → (b : Bool) → is_once all ≡ b → Gives names gs words
+      go all is said true once =
+          let known : ◌≡◌ {A = Option (List Given)} (Some all) (Some gs) = rw once at said in
+          let same : all ≡ gs = cc in
+          subst (λ (xs : List Given). Gives names xs words) same (sound words None all is once)
+      go all is said false once = absurd (none-some gs (rw once at said))
+
+  asks : (words : List Text) (job : Asked) → job_in names words ≡ Some job → AsksFor names words job
+  asks words job e = option_and_then_some _ (given_in names words) job e
+      (λ gs is said. record { gs = gs; gives = gives words gs is; numbers = said })
 
 -- ---- what stands in the words is read
 
@@ -292,6 +302,12 @@ no_number_of text h = rw (no_number text h) refl
 no_number_within : (least most : ℕ) (text : Text) → is_hyphenated text ≡ true → number_within least most text ≡ None
 no_number_within least most text h = rw (no_number text h) refl
 
+no_step_order : (text : Text) → is_hyphenated text ≡ true → step_order_named text ≡ None
+no_step_order [] h = absurd (true≢false (sym h))
+no_step_order (b ∷ bs) h =
+    let not_turns : bytes_eq (b ∷ bs) (codes "turns") ≡ false = rw (eqb-true b 45 h) refl in
+    rw (not_turns, no_number_of (b ∷ bs) h) refl
+
 no_count : (text : Text) → is_hyphenated text ≡ true → count_named text ≡ None
 no_count [] h = absurd (true≢false (sym h))
 no_count (b ∷ bs) h = rw (eqb-true b 45 h) refl
@@ -306,53 +322,78 @@ some_of : {A B P : Type 0} (f : A → B) (o : Option A) (b : B) → option_map f
 some_of f None b e next = absurd (none-some b e)
 some_of {A} {B} f (Some a) b e next = next a refl (let h : f a ≡ b = cc in h)
 
+-- a value does not begin with a hyphen
+abbrev IsPlainValue : (Text → Option Text) → Text → Type 0
+IsPlainValue value_of name = (text : Text) → value_of name ≡ Some text → is_hyphenated text ≡ false
+
 module _ (value_of : Text → Option Text) where
+  record RunValues (options : Options) : Type 0 where
+    n_is : option_and_then (number_within 1 100000) (value_of (codes "N")) ≡ Some options.iterations
+    seed_is : or_else 0 number_of (value_of (codes "seed")) ≡ Some options.seed
+    rate_is : or_else 64 (number_within 0 256) (value_of (codes "rate")) ≡ Some options.rate
+    buffer_is : or_else 8 (number_within 1 16) (value_of (codes "buffer")) ≡ Some options.buffer
+
+  run_values : (options : Options) → options_of value_of ≡ Some options → RunValues options
+  run_values options e0 =
+      option_and_then_some _ _ options e0 (λ n n_is e1.
+      option_and_then_some _ _ options e1 (λ seed_value seed_is e2.
+      option_and_then_some _ _ options e2 (λ rate_value rate_is e3.
+      some_of _ _ options e3 (λ buffer_value buffer_is same. subst (λ (o : Options). RunValues o) same (record {
+        n_is = n_is;
+        seed_is = seed_is;
+        rate_is = rate_is;
+        buffer_is = buffer_is;
+      })))))
+
+  -- what is asked for has these options and pieces, and its order is plain
   record Values : Type 0 where
-    n : ℕ
-    n_is : option_and_then (number_within 1 100000) (value_of (codes "N")) ≡ Some n
-    seed_value : ℕ
-    seed_is : or_else 0 number_of (value_of (codes "seed")) ≡ Some seed_value
-    rate_value : ℕ
-    rate_is : or_else 64 (number_within 0 256) (value_of (codes "rate")) ≡ Some rate_value
-    buffer_value : ℕ
-    buffer_is : or_else 8 (number_within 1 16) (value_of (codes "buffer")) ≡ Some buffer_value
-    count_value : Count
-    count_is : or_else Exhaustive count_named (value_of (codes "count")) ≡ Some count_value
+    options : Options
+    run : RunValues options
     cut_value : ℕ
     cut_is : or_else 4096 (number_within 1 65536) (value_of (codes "cut")) ≡ Some cut_value
-    order_value : Option ℕ
-    order_is : order_of (value_of (codes "order")) ≡ Some order_value
+    order : IsPlainValue value_of (codes "order")
+    count : IsPlainValue value_of (codes "count")
 
-  values : (job : Asked) → job_of value_of ≡ Some job → Values
-  values job e0 =
-      option_and_then_some _ _ job e0 (λ n n_is e1.
-      option_and_then_some _ _ job e1 (λ seed_value seed_is e2.
-      option_and_then_some _ _ job e2 (λ rate_value rate_is e3.
-      option_and_then_some _ _ job e3 (λ buffer_value buffer_is e4.
-      option_and_then_some _ _ job e4 (λ count_value count_is e5.
-      option_and_then_some _ _ job e5 (λ cut_value cut_is e6.
-      some_of _ _ job e6 (λ order_value order_is e7. record {
-        n = n;
-        n_is = n_is;
-        seed_value = seed_value;
-        seed_is = seed_is;
-        rate_value = rate_value;
-        rate_is = rate_is;
-        buffer_value = buffer_value;
-        buffer_is = buffer_is;
-        count_value = count_value;
-        count_is = count_is;
-        cut_value = cut_value;
-        cut_is = cut_is;
-        order_value = order_value;
-        order_is = order_is;
-      })))))))
-
-  plain_order : (text : Text) (o : Option Text) (q : Option ℕ) → o ≡ Some text → order_of o ≡ Some q
-      → is_hyphenated text ≡ false
-  plain_order text o q is e =
+  plain_order : (q : Option ℕ) → order_of (value_of (codes "order")) ≡ Some q → IsPlainValue value_of (codes "order")
+  plain_order q e text is =
       some_of _ (number_of text) q (subst (λ (p : Option Text). order_of p ≡ Some q) is e)
       (λ n n_is _. not_read number_of no_number_of text n n_is)
+
+  plain_count : (way : Count) → or_else Exhaustive count_named (value_of (codes "count")) ≡ Some way
+      → IsPlainValue value_of (codes "count")
+  plain_count way e text is = not_read count_named no_count text way (read_or Exhaustive _ count_named _ text is e)
+
+  job_values : (job : Asked) → job_of value_of ≡ Some job → Values
+  job_values job e0 =
+      option_and_then_some _ _ job e0 (λ options options_are e1.
+      option_and_then_some _ _ job e1 (λ way way_is e2.
+      option_and_then_some _ _ job e2 (λ cut_value cut_is e3.
+      some_of _ _ job e3 (λ order_value order_is e4. record {
+        options = options;
+        run = run_values options options_are;
+        cut_value = cut_value;
+        cut_is = cut_is;
+        order = plain_order order_value order_is;
+        count = plain_count way way_is;
+      }))))
+
+  plain_step_order : (way : StepOrder) → or_else Threads step_order_named (value_of (codes "order")) ≡ Some way
+      → IsPlainValue value_of (codes "order")
+  plain_step_order way e text is =
+      not_read step_order_named no_step_order text way (read_or Threads _ step_order_named _ text is e)
+
+  count_values : (job : AskedCount) → count_of value_of ≡ Some job → IsPlainValue value_of (codes "count") → Values
+  count_values job e0 plain =
+      option_and_then_some _ _ job e0 (λ options options_are e1.
+      option_and_then_some _ _ job e1 (λ cut_value cut_is e2.
+      some_of _ _ job e2 (λ way way_is e3. record {
+        options = options;
+        run = run_values options options_are;
+        cut_value = cut_value;
+        cut_is = cut_is;
+        order = plain_step_order way way_is;
+        count = plain;
+      })))
 
   plain_N : (text : Text) (o : Option Text) (n : ℕ) → o ≡ Some text
       → option_and_then (number_within 1 100000) o ≡ Some n → is_hyphenated text ≡ false
@@ -363,28 +404,34 @@ module _ (value_of : Text → Option Text) where
   plain_value : Values → (name : Text) → IsName name → (text : Text) → value_of name ≡ Some text
       → is_hyphenated text ≡ false
   plain_value v name (inl is) text e =
-      plain_N text (value_of (codes "N")) v.n (sym (ap value_of is) ∙ e) v.n_is
+      plain_N text (value_of (codes "N")) v.options.iterations (sym (ap value_of is) ∙ e) v.run.n_is
   plain_value v _ (inr seed) text e =
-      not_read number_of no_number_of text v.seed_value (read_or 0 _ number_of _ text e v.seed_is)
+      not_read number_of no_number_of text v.options.seed (read_or 0 _ number_of _ text e v.run.seed_is)
   plain_value v _ (inr rate) text e =
-      not_read (number_within 0 256) (no_number_within 0 256) text v.rate_value
-      (read_or 64 _ (number_within 0 256) _ text e v.rate_is)
+      not_read (number_within 0 256) (no_number_within 0 256) text v.options.rate
+      (read_or 64 _ (number_within 0 256) _ text e v.run.rate_is)
   plain_value v _ (inr buffer) text e =
-      not_read (number_within 1 16) (no_number_within 1 16) text v.buffer_value
-      (read_or 8 _ (number_within 1 16) _ text e v.buffer_is)
-  plain_value v _ (inr count) text e =
-      not_read count_named no_count text v.count_value (read_or Exhaustive _ count_named _ text e v.count_is)
+      not_read (number_within 1 16) (no_number_within 1 16) text v.options.buffer
+      (read_or 8 _ (number_within 1 16) _ text e v.run.buffer_is)
+  plain_value v _ (inr count) text e = v.count text e
   plain_value v _ (inr cut) text e =
       not_read (number_within 1 65536) (no_number_within 1 65536) text v.cut_value
       (read_or 4096 _ (number_within 1 65536) _ text e v.cut_is)
-  plain_value v _ (inr order) text e = plain_order text (value_of (codes "order")) v.order_value e v.order_is
+  plain_value v _ (inr order) text e = v.order text e
+
+-- what stands in the words is given, where the values are ones that are asked for
+given_is : (names : List Text) → ((name : Text) → is_among name names ≡ true → IsOptionName name)
+    → (words : List Text) (gs : List Given) → Gives names gs words → Values (value_given gs)
+    → given_in names words ≡ Some gs
+given_is names known words gs gives v =
+    let plain = plain_all names known gs words gives (plain_value (value_given gs) v) in
+    rw (complete names known gs words gives plain, once names known gs words gives) refl
 
 job_read : (names : List Text) → ((name : Text) → is_among name names ≡ true → IsOptionName name)
     → (words : List Text) (job : Asked) → AsksFor names words job → job_in names words ≡ Some job
 job_read names known words job a =
-    let plain = plain_all names known a.gs words a.gives
-    (plain_value (value_given a.gs) (values (value_given a.gs) job a.numbers)) in
-    rw (complete names known a.gs words a.gives plain, once names known a.gs words a.gives) a.numbers
+    ap (option_and_then (λ gs. job_of (value_given gs)))
+    (given_is names known words a.gs a.gives (job_values (value_given a.gs) job a.numbers)) ∙ a.numbers
 
 -- ---- the names of the options
 
@@ -395,6 +442,12 @@ among_cases x xs name among = go (bytes_eq x name) refl
     go : (b : Bool) → bytes_eq x name ≡ b → (x ≡ name) ⊎ (is_among name xs ≡ true)
     go true e = inl (same_text x name e)
     go false e = inr (rw e at among)
+
+other_name : (names : List Text) (name other : Text) → is_among name names ≡ false → is_among other names ≡ true
+    → bytes_eq other name ≡ false
+other_name names name other none among =
+    false_from_ne_true (bytes_eq other name) (λ e.
+    true≢false (sym (subst (λ (t : Text). is_among t names ≡ true) (same_text other name e) among) ∙ none))
 
 known_to : (x : Text) (xs : List Text) → IsOptionName x
     → ((name : Text) → is_among name xs ≡ true → IsOptionName name)
@@ -414,6 +467,42 @@ run_known =
 
 replay_known : (name : Text) → is_among name replay_names ≡ true → IsOptionName name
 replay_known = known_to (codes "order") run_names order run_known
+
+count_known : (name : Text) → is_among name count_names ≡ true → IsOptionName name
+count_known =
+    known_to (codes "order") (codes "seed" ∷ codes "rate" ∷ codes "buffer" ∷ codes "cut" ∷ []) order
+    (known_to (codes "seed") (codes "rate" ∷ codes "buffer" ∷ codes "cut" ∷ []) seed
+    (known_to (codes "rate") (codes "buffer" ∷ codes "cut" ∷ []) rate
+    (known_to (codes "buffer") (codes "cut" ∷ []) buffer
+    (known_to (codes "cut") [] cut (λ name among. absurd (true≢false (sym among)))))))
+
+-- ---- the job of a count
+
+-- nothing is given to another name than `N` and those of the options
+not_given_to : (names : List Text) (name : Text) → is_among name names ≡ false → bytes_eq (codes "N") name ≡ false
+    → (gs : List Given) (words : List Text) → Gives names gs words → value_given gs name ≡ None
+not_given_to names name other number_other _ _ nothing = refl
+not_given_to names name other number_other _ _ (number word gs words new more) =
+    rw number_other (not_given_to names name other number_other gs words more)
+not_given_to names name other number_other _ _ (apart n value gs words among new more) =
+    rw (other_name names name n other among) (not_given_to names name other number_other gs words more)
+not_given_to names name other number_other _ _ (joined n value gs words among new more) =
+    rw (other_name names name n other among) (not_given_to names name other number_other gs words more)
+
+count_read : (words : List Text) (job : AskedCount) → AsksForCount words job → count_in words ≡ Some job
+count_read words job a =
+    let none : value_given a.gs (codes "count") ≡ None = not_given_to count_names (codes "count") refl refl a.gs words
+    a.gives in
+    ap (option_and_then (λ gs. count_of (value_given gs)))
+    (given_is count_names count_known words a.gs a.gives (count_values (value_given a.gs) job a.numbers
+    (λ text is. absurd (none-some text (sym none ∙ is))))) ∙ a.numbers
+
+count_asked : (words : List Text) (job : AskedCount) → count_in words ≡ Some job → AsksForCount words job
+count_asked words job e = option_and_then_some _ (given_in count_names words) job e
+    (λ gs is said. record { gs = gs; gives = gives count_names words gs is; numbers = said })
+
+pub counts_are_read : CountsAreRead
+counts_are_read words job = (count_read words job, count_asked words job)
 
 -- ---- commands
 

@@ -4,6 +4,7 @@ use Rattle.perp_base.specs.declared.limits.TheConstants.{MOST_PIECES}
 use Rattle.perp_base.specs.declared.options.Options.{Options}
 use Rattle.perp_base.specs.Options.{IsWithinLimits}
 use Rattle.command_words.specs.declared.job.Count.{Count}
+use Rattle.command_words.specs.declared.job.StepOrder.{StepOrder}
 
 -- a job, as contracts see it
 pub record Asked : Type 0 where
@@ -11,6 +12,12 @@ pub record Asked : Type 0 where
   pub count : Count
   pub cut : ℕ
   pub order : Option ℕ
+
+-- what a count is asked for, as contracts see it
+pub record AskedCount : Type 0 where
+  pub options : Options
+  pub cut : ℕ
+  pub order : StepOrder
 
 -- the limits of a job's numbers
 pub record IsWithin (options : Options) (cut : ℕ) : Type 0 where

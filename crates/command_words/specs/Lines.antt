@@ -3,8 +3,8 @@
 use Rattle.std.specs.Prelude.{◌≡◌, ◌↔◌, ◌++◌, ℕ, true, false, List, [], ◌∷◌, Some, codes}
 use Rattle.command_words.specs.declared.job.Command.{Command}
 use Rattle.command_words.specs.declared.job.Command.TheVariants.{Run, Replay, Convert, Demo}
-use Rattle.command_words.specs.Job.{Asked}
-use Rattle.command_words.specs.Words.{Given, Text, command_of, is_among, is_given, job_of, number_of, replay_names, run_names, value_given}
+use Rattle.command_words.specs.Job.{Asked, AskedCount}
+use Rattle.command_words.specs.Words.{Given, Text, command_of, count_in, count_names, count_of, is_among, is_given, job_of, number_of, replay_names, run_names, value_given}
 
 -- the option of this name, in a word
 abbrev pub spelled : Text → Text
@@ -32,6 +32,12 @@ pub record AsksFor (names : List Text) (words : List Text) (job : Asked) : Type 
   pub gives : Gives names gs words
   pub numbers : job_of (value_given gs) ≡ Some job
 
+-- the words ask for this job of a count, in the same way
+pub record AsksForCount (words : List Text) (job : AskedCount) : Type 0 where
+  pub gs : List Given
+  pub gives : Gives count_names gs words
+  pub numbers : count_of (value_given gs) ≡ Some job
+
 -- `StandsFor words command`: the words are a line of this command
 pub data StandsFor : List Text → Command → Type 0 where
   run : (words : List Text) (job : Asked) → AsksFor run_names words job → StandsFor (codes "run" ∷ words) (Run job)
@@ -48,3 +54,7 @@ LinesAreRead = (words : List Text) (command : Command) → StandsFor words comma
 abbrev pub LinesStandForOne : Type 0
 LinesStandForOne =
     (words : List Text) (one other : Command) → StandsFor words one → StandsFor words other → one ≡ other
+
+-- law: words ask for a job of a count exactly where that is the one which is read from left to right
+abbrev pub CountsAreRead : Type 0
+CountsAreRead = (words : List Text) (job : AskedCount) → AsksForCount words job ↔ (count_in words ≡ Some job)

@@ -11,7 +11,10 @@ use Rattle.command_words.specs.declared.job.Command.{Command}
 use Rattle.command_words.specs.declared.job.Command.TheVariants.{Run, Replay, Convert, Demo}
 use Rattle.command_words.specs.declared.job.Count.{Count}
 use Rattle.command_words.specs.declared.job.Count.TheVariants.{Exhaustive, Heuristic, Both}
-use Rattle.command_words.specs.Job.{Asked}
+use Rattle.command_words.specs.declared.job.StepOrder.{StepOrder}
+use Rattle.command_words.specs.declared.job.StepOrder.TheVariants.{Threads, Turns, Seeded}
+use Rattle.command_words.specs.Job.{Asked, AskedCount}
+use Rattle.perp_base.specs.declared.options.Options.{Options}
 
 abbrev pub Text : Type 0
 Text = List ℕ
@@ -129,38 +132,64 @@ abbrev pub order_of : Option Text → Option (Option ℕ)
 order_of None = Some None
 order_of (Some text) = option_map (λ n. Some n) (number_of text)
 
--- the job, by the value of each name
-abbrev pub job_of : (Text → Option Text) → Option Asked
-job_of value_of =
+-- how a run is made, by the value of each name
+abbrev pub options_of : (Text → Option Text) → Option Options
+options_of value_of =
     option_and_then (λ n.
     option_and_then (λ seed.
     option_and_then (λ rate.
-    option_and_then (λ buffer.
-    option_and_then (λ count.
-    option_and_then (λ cut.
-    option_map (λ order. record {
-      options = record { iterations = n; seed = seed; rate = rate; buffer = buffer };
-      count = count;
-      cut = cut;
-      order = order;
-    }) (order_of (value_of (codes "order"))))
-    (or_else 4096 (number_within 1 MOST_PIECES) (value_of (codes "cut"))))
-    (or_else Exhaustive count_named (value_of (codes "count"))))
+    option_map (λ buffer. record { iterations = n; seed = seed; rate = rate; buffer = buffer })
     (or_else 8 (number_within 1 16) (value_of (codes "buffer"))))
     (or_else 64 (number_within 0 256) (value_of (codes "rate"))))
     (or_else 0 number_of (value_of (codes "seed"))))
     (option_and_then (number_within 1 MOST_ITERATIONS) (value_of (codes "N")))
 
+-- the job, by the value of each name
+abbrev pub job_of : (Text → Option Text) → Option Asked
+job_of value_of =
+    option_and_then (λ options.
+    option_and_then (λ count.
+    option_and_then (λ cut.
+    option_map (λ order. record { options = options; count = count; cut = cut; order = order })
+    (order_of (value_of (codes "order"))))
+    (or_else 4096 (number_within 1 MOST_PIECES) (value_of (codes "cut"))))
+    (or_else Exhaustive count_named (value_of (codes "count"))))
+    (options_of value_of)
+
+-- the order of steps that the value names: `turns`, or the seed of a schedule
+abbrev pub step_order_named : Text → Option StepOrder
+step_order_named text = if bytes_eq text (codes "turns") then Some Turns else option_map Seeded (number_of text)
+
+-- the job of a count, by the value of each name
+abbrev pub count_of : (Text → Option Text) → Option AskedCount
+count_of value_of =
+    option_and_then (λ options.
+    option_and_then (λ cut.
+    option_map (λ order. record { options = options; cut = cut; order = order })
+    (or_else Threads step_order_named (value_of (codes "order"))))
+    (or_else 4096 (number_within 1 MOST_PIECES) (value_of (codes "cut"))))
+    (options_of value_of)
+
+-- what the words give, where nothing is given twice
+abbrev pub given_in : List Text → List Text → Option (List Given)
+given_in names words = option_and_then (λ gs. if is_once gs then Some gs else None) (given_by names None words)
+
 -- the job that the words after `run` or `replay` name, where the options have these names
 abbrev pub job_in : List Text → List Text → Option Asked
-job_in names words = option_and_then (λ gs.
-    if is_once gs then job_of (value_given gs) else None) (given_by names None words)
+job_in names words = option_and_then (λ gs. job_of (value_given gs)) (given_in names words)
 
 abbrev pub run_names : List Text
 run_names = codes "seed" ∷ codes "rate" ∷ codes "buffer" ∷ codes "count" ∷ codes "cut" ∷ []
 
 abbrev pub replay_names : List Text
 replay_names = codes "order" ∷ run_names
+
+abbrev pub count_names : List Text
+count_names = codes "order" ∷ codes "seed" ∷ codes "rate" ∷ codes "buffer" ∷ codes "cut" ∷ []
+
+-- the job that the words after `count` name
+abbrev pub count_in : List Text → Option AskedCount
+count_in words = option_and_then (λ gs. count_of (value_given gs)) (given_in count_names words)
 
 abbrev pub convert_in : List Text → Option Command
 convert_in [] = Some Convert

@@ -48,6 +48,40 @@ impl Model for Job {
     ghost invariant = { λ j. IsWithin j.options j.cut };
 }
 
+/// In which order the steps of a run that is counted are made.
+#[derive(Clone, Copy, Debug, PartialEq, Eq)]
+pub enum StepOrder {
+    /// Threads make them, as they come to it.
+    Threads,
+    /// One thread at a time makes them, in turns.
+    Turns,
+    /// One thread at a time makes them, by the schedule of this seed.
+    Seeded(u64),
+}
+
+/// What a count is asked for. Each of its numbers lies within its limits (`IsWithin`).
+#[derive(Clone, Copy, Debug, PartialEq, Eq)]
+pub struct CountJob {
+    /// How the run is made: 1 to 100,000 iterations, a rate of 0 to 256, a buffer of 1 to 16.
+    pub options: Options,
+    /// Into how many pieces the count cuts the frames, 1 to 65,536.
+    pub cut: u32,
+    /// In which order the steps of the run are made.
+    pub order: StepOrder,
+}
+
+impl Model for CountJob {
+    ghost use Rattle.command_words.specs.Job.{AskedCount, IsWithin};
+
+    ghost Value = { AskedCount };
+
+    ghost view = { λ j. record { options = j.options; cut = j.cut; order = j.order } };
+
+    ghost inverse = { λ a. record { options = a.options; cut = a.cut; order = a.order } };
+
+    ghost invariant = { λ j. IsWithin j.options j.cut };
+}
+
 /// A command of the program.
 #[derive(Clone, Copy, Debug, PartialEq, Eq)]
 pub enum Command {

@@ -1,13 +1,14 @@
 //! The words are read, those of `run` and `replay` by clap.
-ghost use Rattle.std.specs.Prelude.{◌≡◌, ◌<◌, ◌≤◌, [], false, codes, drop, length, IfOk, map, string_bytes, MatchResult};
+ghost use Rattle.std.specs.Prelude.{◌≡◌, ◌<◌, ◌≤◌, [], false, codes, drop, length, IfOk, IfSome, map, string_bytes, MatchResult};
 ghost use Rattle.std.specs.List.{list_any};
+ghost use Rattle.perp_base.specs.Options.{IsWithinLimits};
 ghost use Rattle.clap.specs.Words.{app_of, first_value, found_of};
 ghost use Rattle.clap.specs.Walk.{rule_of, texts};
-ghost use Rattle.command_words.specs.Clap.{app_for, option_arg};
-ghost use Rattle.command_words.specs.Words.{command_of, convert_in, demo_in, is_among, is_stray, iterations_in, job_in, job_of};
+ghost use Rattle.command_words.specs.Clap.{HasNoNumber, IsRead, app_for, option_arg};
+ghost use Rattle.command_words.specs.Words.{command_of, convert_in, count_in, count_of, demo_in, is_among, is_stray, iterations_in, job_in, job_of, options_of};
 
-use crate::job::{Command, Count, Job};
-use crate::values::{count_or, number, number_or, order_in, read_within, within_or};
+use crate::job::{Command, Count, CountJob, Job};
+use crate::values::{count_or, number, number_or, order_in, read_within, step_order_in, within_or};
 use clap::error::ErrorKind;
 use clap::{Arg, ArgMatches};
 use perp_base::{MOST_ITERATIONS, MOST_PIECES, Options};
@@ -22,25 +23,48 @@ pub enum WordsError {
     Memory,
 }
 
-/// The job of the values that clap found.
-fn job_from(matches: &ArgMatches) -> Option<Job>
-    ensures { result ≡ job_of (first_value (found_of matches.now)) }
+/// How a run is made, by the values that clap found.
+fn options_from(matches: &ArgMatches) -> Option<Options>
+    ensures read { result ≡ options_of (first_value (found_of matches.now)) }
+    ensures limits { IfSome result IsWithinLimits }
 {
     let iterations = read_within(matches.get_str("N")?, 1, MOST_ITERATIONS)?;
     let seed = number_or(matches.get_str("seed"), 0)?;
     let rate = within_or(matches.get_str("rate"), 64, 0, 256)?;
     let buffer = within_or(matches.get_str("buffer"), 8, 1, 16)?;
+    Some(Options {
+        iterations,
+        seed,
+        rate,
+        buffer,
+    })
+}
+
+/// The job of the values that clap found.
+fn job_from(matches: &ArgMatches) -> Option<Job>
+    ensures { result ≡ job_of (first_value (found_of matches.now)) }
+{
+    let options = options_from(matches)?;
     let count = count_or(matches.get_str("count"), Count::Exhaustive)?;
     let cut = within_or(matches.get_str("cut"), 4096, 1, MOST_PIECES)?;
     let order = order_in(matches.get_str("order"))?;
     Some(Job {
-        options: Options {
-            iterations,
-            seed,
-            rate,
-            buffer,
-        },
+        options,
         count,
+        cut,
+        order,
+    })
+}
+
+/// The job of a count, by the values that clap found.
+fn count_from(matches: &ArgMatches) -> Option<CountJob>
+    ensures { result ≡ count_of (first_value (found_of matches.now)) }
+{
+    let options = options_from(matches)?;
+    let cut = within_or(matches.get_str("cut"), 4096, 1, MOST_PIECES)?;
+    let order = step_order_in(matches.get_str("order"))?;
+    Some(CountJob {
+        options,
         cut,
         order,
     })
@@ -99,14 +123,21 @@ static RUN_NAMES: [&str; 5] = ["seed", "rate", "buffer", "count", "cut"];
 /// The options of `replay`.
 static REPLAY_NAMES: [&str; 6] = ["order", "seed", "rate", "buffer", "count", "cut"];
 
-/// Reads the words after the first by clap, with options of these names.
-fn read_job<'a>(alloc: Global, words: &'a [String], names: &[&'a str]) -> Result<Job, WordsError>
+/// The options of `count`.
+static COUNT_NAMES: [&str; 5] = ["order", "seed", "rate", "buffer", "cut"];
+
+/// Reads the words after the first by clap, as the values of `N` and of options of these names.
+fn read_values<'a>(
+    alloc: Global,
+    words: &'a [String],
+    names: &[&'a str],
+) -> Result<ArgMatches<'a>, WordsError>
     requires some { 0 < length words.now }
     requires no_count { is_among (codes "N") (texts names.now) ≡ false }
-    ensures ok { IfOk result (λ job. job_in (texts names.now) (drop 1 (map (λ w. string_bytes w) words.entry.now))
-        ≡ Some job) }
+    ensures ok { IfOk result (λ matches. IsRead (texts names.now)
+        (drop 1 (map (λ w. string_bytes w) words.entry.now)) (first_value (found_of matches))) }
     ensures usage { result ≡ Err WordsError.Usage
-        → job_in (texts names.now) (drop 1 (map (λ w. string_bytes w) words.entry.now)) ≡ None }
+        → HasNoNumber (texts names.now) (drop 1 (map (λ w. string_bytes w) words.entry.now)) }
 {
     if has_stray_word(&words[1..]) {
         return Err(WordsError::Usage);
@@ -115,7 +146,7 @@ fn read_job<'a>(alloc: Global, words: &'a [String], names: &[&'a str]) -> Result
         return Err(WordsError::Memory);
     };
     match command.try_get_matches_from(words) {
-        Ok(matches) => job_from(&matches).ok_or(WordsError::Usage),
+        Ok(matches) => Ok(matches),
         Err(error) => {
             if error.kind() == ErrorKind::OutOfMemory {
                 Err(WordsError::Memory)
@@ -123,6 +154,35 @@ fn read_job<'a>(alloc: Global, words: &'a [String], names: &[&'a str]) -> Result
                 Err(WordsError::Usage)
             }
         }
+    }
+}
+
+/// Reads the words after the first as a job, with options of these names.
+fn read_job<'a>(alloc: Global, words: &'a [String], names: &[&'a str]) -> Result<Job, WordsError>
+    requires some { 0 < length words.now }
+    requires no_count { is_among (codes "N") (texts names.now) ≡ false }
+    ensures ok { IfOk result (λ job. job_in (texts names.now) (drop 1 (map (λ w. string_bytes w) words.entry.now))
+        ≡ Some job) }
+    ensures usage { result ≡ Err WordsError.Usage
+        → job_in (texts names.now) (drop 1 (map (λ w. string_bytes w) words.entry.now)) ≡ None }
+{
+    match read_values(alloc, words, names) {
+        Ok(matches) => job_from(&matches).ok_or(WordsError::Usage),
+        Err(error) => Err(error),
+    }
+}
+
+/// Reads the words after the first, the name of some command, as the job of a count, by clap. `Usage` comes exactly
+/// where they are none; that memory is refused may come instead of either answer.
+pub fn read_count(alloc: Global, words: &[String]) -> Result<CountJob, WordsError>
+    requires { 0 < length words.now }
+    ensures ok { IfOk result (λ job. count_in (drop 1 (map (λ w. string_bytes w) words.now)) ≡ Some job) }
+    ensures usage { result ≡ Err WordsError.Usage
+        → count_in (drop 1 (map (λ w. string_bytes w) words.now)) ≡ None }
+{
+    match read_values(alloc, words, &COUNT_NAMES) {
+        Ok(matches) => count_from(&matches).ok_or(WordsError::Usage),
+        Err(error) => Err(error),
     }
 }
 

@@ -1,5 +1,10 @@
 //! Words that are commands, and words that are none.
-use crate::{Command, Count, Job, Options, WordsError, read_iterations, read_words};
+ghost use Rattle.command_words.specs.Job.{IsWithin};
+
+use crate::{
+    Command, Count, CountJob, Job, Options, StepOrder, WordsError, read_count, read_iterations,
+    read_words,
+};
 use std::alloc::{AllocError, Global};
 use std::test::Fail;
 
@@ -153,6 +158,75 @@ fn reads_iterations(rt: HostRuntime) -> Result<(), Fail> {
         "walk x",
     ] {
         assert_eq!(rt; iterations(alloc, line), Err(WordsError::Usage), "{line}");
+    }
+    Ok(())
+}
+
+/// The job of a count after the name that begins a line.
+fn count_job(alloc: Global, line: &str) -> Result<CountJob, WordsError> {
+    let Ok(words) = words_of(alloc, line) else {
+        return Err(WordsError::Memory);
+    };
+    if words.is_empty() {
+        return Err(WordsError::Usage);
+    }
+    read_count(alloc, &words)
+}
+
+/// A job of a count: so many pieces, and this order of steps.
+fn counting(options: Options, cut: u32, order: StepOrder) -> CountJob
+    requires { IsWithin options cut }
+{
+    CountJob {
+        options,
+        cut,
+        order,
+    }
+}
+
+/// A name, and after it the number of iterations and the options of a run and its order, but not the way to count.
+#[test]
+fn reads_counts(rt: HostRuntime) -> Result<(), Fail> {
+    let alloc = rt.alloc();
+    let most = Options {
+        iterations: 100000,
+        seed: 18446744073709551615,
+        rate: 256,
+        buffer: 16,
+    };
+    for (line, job) in [
+        ("count 5", counting(USUAL, 4096, StepOrder::Threads)),
+        (
+            "count --order=turns 005 --cut 1",
+            counting(USUAL, 1, StepOrder::Turns),
+        ),
+        (
+            "count 5 --order 0 --cut=65536",
+            counting(USUAL, 65536, StepOrder::Seeded(0)),
+        ),
+        (
+            "count --buffer=16 --rate 256 --seed 18446744073709551615 100000",
+            counting(most, 4096, StepOrder::Threads),
+        ),
+    ] {
+        assert_eq!(rt; count_job(alloc, line), Ok(job), "{line}");
+    }
+    for line in [
+        "count",
+        "count 0",
+        "count 100001",
+        "count 5 --count exhaustive",
+        "count 5 --order",
+        "count 5 --order Turns",
+        "count 5 --order 18446744073709551616",
+        "count 5 --order turns --order 1",
+        "count 5 --rate 257",
+        "count 5 --buffer 0",
+        "count 5 --cut 65537",
+        "count 5 6",
+        "count -- 5",
+    ] {
+        assert_eq!(rt; count_job(alloc, line), Err(WordsError::Usage), "{line}");
     }
     Ok(())
 }

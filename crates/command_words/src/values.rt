@@ -2,9 +2,10 @@
 ghost use Rattle.std.specs.Prelude.{◌≡◌, ◌≤◌, IfSome, option_map};
 ghost use Rattle.std.specs.Char.{is_ascii_digit};
 ghost use Rattle.std.specs.List.{list_all};
-ghost use Rattle.command_words.specs.Words.{count_named, is_number, number_of, number_within, or_else, order_of};
+ghost use Rattle.command_words.specs.declared.job.StepOrder.TheVariants.{Threads};
+ghost use Rattle.command_words.specs.Words.{count_named, is_number, number_of, number_within, or_else, order_of, step_order_named};
 
-use crate::job::Count;
+use crate::job::{Count, StepOrder};
 
 fn are_digits(bytes: &[u8]) -> bool
     ensures { result ≡ list_all is_ascii_digit bytes.now }
@@ -44,7 +45,7 @@ pub(crate) fn read_within(text: &str, least: u32, most: u32) -> Option<u32>
 }
 
 /// A way to count, by its name.
-pub(crate) fn read_count(text: &str) -> Option<Count>
+pub(crate) fn named_count(text: &str) -> Option<Count>
     ensures { result ≡ count_named text.now }
 {
     match text {
@@ -85,7 +86,7 @@ pub(crate) fn count_or(text: Option<&str>, default: Count) -> Option<Count>
 {
     match text {
         None => Some(default),
-        Some(text) => read_count(text),
+        Some(text) => named_count(text),
     }
 }
 
@@ -96,5 +97,25 @@ pub(crate) fn order_in(text: Option<&str>) -> Option<Option<u64>>
     match text {
         None => Some(None),
         Some(text) => Some(Some(number(text)?)),
+    }
+}
+
+/// The order of steps of a value: `turns`, or the seed of a schedule.
+fn named_order(text: &str) -> Option<StepOrder>
+    ensures { result ≡ step_order_named text.now }
+{
+    if text == "turns" {
+        return Some(StepOrder::Turns);
+    }
+    Some(StepOrder::Seeded(number(text)?))
+}
+
+/// The order of steps, which threads make where no value is given.
+pub(crate) fn step_order_in(text: Option<&str>) -> Option<StepOrder>
+    ensures { result ≡ or_else Threads step_order_named (option_map (λ s. s.now) text.entry) }
+{
+    match text {
+        None => Some(StepOrder::Threads),
+        Some(text) => named_order(text),
     }
 }

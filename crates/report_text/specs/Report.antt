@@ -3,6 +3,7 @@ use Rattle.std.specs.Prelude.{ℕ, Bool, false, nat_lt, if◌then◌else◌, Lis
 use Rattle.std.specs.List.{flat_map}
 use Rattle.std.specs.declared.option.Option.{Option}
 use Rattle.report_text.specs.Words.{newline, number_line, test_line}
+use Rattle.report_text.specs.declared.rows.CountReport.{CountReport}
 use Rattle.report_text.specs.declared.rows.Report.{Report}
 
 -- what a report says, with the list of the hits in the place of its vector
@@ -36,11 +37,11 @@ unfoldable pub condition_line : Bool → ℕ → List ℕ
 condition_line negated atoms =
     codes "Condition " ++ (if negated then codes "~exists" else codes "exists") ++ codes " " ++ decimal atoms ++ newline
 
--- the lines up to the condition
-unfoldable pub head_lines : ReportRows → List ℕ
-head_lines r =
-    test_line r.name ++ number_line (codes "Threads") r.threads ++ number_line (codes "Iterations") r.iterations
-    ++ condition_line r.negated r.atoms
+-- the lines of a test: its name, its threads, how often it was run, and its condition
+unfoldable pub head_lines : List ℕ → ℕ → ℕ → Bool → ℕ → List ℕ
+head_lines name threads iterations negated atoms =
+    test_line name ++ number_line (codes "Threads") threads ++ number_line (codes "Iterations") iterations
+    ++ condition_line negated atoms
 
 -- the line of a number that was asked for, else none
 unfoldable pub asked_line : List ℕ → Option ℕ → List ℕ
@@ -82,4 +83,11 @@ seen_line seen = (if seen then codes "Seen yes" else codes "Seen no") ++ newline
 
 -- the whole report
 unfoldable pub report_of : ReportRows → List ℕ
-report_of r = head_lines r ++ count_lines r ++ seen_line (is_seen r.exhaustive r.hits)
+report_of r =
+    head_lines r.name r.threads r.iterations r.negated r.atoms ++ count_lines r ++ seen_line (is_seen r.exhaustive r.hits)
+
+-- the whole report of a count
+unfoldable pub count_report_of : CountReport → List ℕ
+count_report_of r =
+    head_lines r.name r.threads r.iterations r.negated r.atoms
+    ++ number_line (codes "Frames") r.frames ++ number_line (codes "Within") r.within ++ seen_line (nat_lt 0 r.within)

@@ -2,7 +2,7 @@
 //!
 //! The texts are definitions over bytes, and each call gives exactly the one that its rows define:
 //!
-//! - `report` gives `report_of` of its rows (`specs/Report`).
+//! - `report` gives `report_of` of its rows, and `count_report` `count_report_of` (`specs/Report`).
 //! - `convert_text` gives `conversion_of` of its rows (`specs/Conversion`).
 //! - `refusal_text` gives `line_of` of the status (`specs/Status`), and takes no memory for it.
 //! - `Status::number` is `status_number`, one of the numbers 0 to 7.
@@ -19,8 +19,8 @@ mod words;
 
 pub use conversion::{AtomForm, AtomRow, Conversion, ReadRow, StoreRow, convert_text};
 pub use line::{Line, refusal_text};
-pub use report_lines::report;
-pub use rows::Report;
+pub use report_lines::{count_report, report};
+pub use rows::{CountReport, Report};
 pub use status::{Over, Status};
 
 #[cfg(test)]

@@ -1,11 +1,11 @@
-//! The report of a run or a replay, a function for each kind of line.
+//! The report of a run or a replay, and that of a count, a function for each kind of line.
 ghost use Rattle.std.specs.Prelude.{◌≡◌, ◌⊎◌, ◌↔◌, ◌++◌, OnOk, IfOk, IsSome, string_bytes, option_map};
 ghost use Rattle.std.specs.Str.{IsAscii};
-ghost use Rattle.report_text.specs.Report.{rows_of, condition_line, asked_line, entries_text, hit_line, hit_lines, heuristic_lines, is_seen, seen_line, head_lines, count_lines, report_of};
+ghost use Rattle.report_text.specs.Report.{rows_of, condition_line, asked_line, entries_text, hit_line, hit_lines, heuristic_lines, is_seen, seen_line, head_lines, count_lines, report_of, count_report_of};
 
-use crate::rows::Report;
+use crate::rows::{CountReport, Report};
 use crate::words::{push_number, push_test};
-use perp_base::{Frame, NoMemory};
+use perp_base::{Frame, Name, NoMemory};
 use std::alloc::Global;
 use std::fmt::Write;
 
@@ -85,14 +85,22 @@ fn push_seen(out: &mut String, seen: bool) -> Result<(), NoMemory>
 }
 
 #[tactic(auto, unfolding(crate::specs::Report::head_lines))]
-fn push_head(out: &mut String, rows: &Report) -> Result<(), NoMemory>
-    requires { IsAscii rows.now.name }
-    ensures { OnOk result (string_bytes out.new ≡ string_bytes out.old ++ head_lines (rows_of rows.now)) }
+fn push_head(
+    out: &mut String,
+    name: &Name,
+    threads: u32,
+    iterations: u32,
+    negated: bool,
+    atoms: u32,
+) -> Result<(), NoMemory>
+    requires { IsAscii name.now }
+    ensures { OnOk result (string_bytes out.new ≡ string_bytes out.old
+        ++ head_lines name.now threads iterations negated atoms) }
 {
-    push_test(out, &rows.name)?;
-    push_number(out, "Threads", u64::from(rows.threads))?;
-    push_number(out, "Iterations", u64::from(rows.iterations))?;
-    push_condition(out, rows.negated, rows.atoms)
+    push_test(out, name)?;
+    push_number(out, "Threads", u64::from(threads))?;
+    push_number(out, "Iterations", u64::from(iterations))?;
+    push_condition(out, negated, atoms)
 }
 
 #[tactic(auto, unfolding(crate::specs::Report::count_lines))]
@@ -123,8 +131,36 @@ pub fn report(alloc: Global, rows: &Report) -> Result<String, NoMemory>
     ensures { IfOk result (λ text. string_bytes text ≡ report_of (rows_of rows.now)) }
 {
     let mut out = String::new(alloc);
-    push_head(&mut out, rows)?;
+    push_head(
+        &mut out,
+        &rows.name,
+        rows.threads,
+        rows.iterations,
+        rows.negated,
+        rows.atoms,
+    )?;
     push_counts(&mut out, rows)?;
     push_seen(&mut out, was_seen(rows))?;
+    Ok(out)
+}
+
+/// The text of the report of a count.
+#[tactic(auto, unfolding(crate::specs::Report::count_report_of))]
+pub fn count_report(alloc: Global, rows: &CountReport) -> Result<String, NoMemory>
+    requires ascii { IsAscii rows.now.name }
+    ensures { IfOk result (λ text. string_bytes text ≡ count_report_of rows.now) }
+{
+    let mut out = String::new(alloc);
+    push_head(
+        &mut out,
+        &rows.name,
+        rows.threads,
+        rows.iterations,
+        rows.negated,
+        rows.atoms,
+    )?;
+    push_number(&mut out, "Frames", rows.frames)?;
+    push_number(&mut out, "Within", rows.within)?;
+    push_seen(&mut out, rows.within > 0)?;
     Ok(out)
 }

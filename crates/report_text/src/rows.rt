@@ -1,5 +1,5 @@
-//! What a report says. The call that writes it stands in a module of its own, since names that differ only in case, as
-//! `Report` and `report`, may not stand in one.
+//! What a report says, and what the report of a count says. The calls that write them stand in a module of their own,
+//! since names that differ only in case, as `Report` and `report`, may not stand in one.
 use perp_base::{Frame, Name};
 
 /// What a report says. A count that was not asked for is `None`.
@@ -23,4 +23,23 @@ pub struct Report {
     pub hits: Option<Vec<Frame>>,
     /// Whether each hit has a line.
     pub show_hits: bool,
+}
+
+/// What the report of a count says.
+#[derive(Drop)]
+pub struct CountReport {
+    /// The test's name, all ASCII.
+    pub name: Name,
+    /// The number of the test's threads.
+    pub threads: u32,
+    /// How often each thread performed its body.
+    pub iterations: u32,
+    /// Whether the quantifier is `~exists`.
+    pub negated: bool,
+    /// The number of all atoms of the condition.
+    pub atoms: u32,
+    /// The number of frames.
+    pub frames: u64,
+    /// The number of frames within which a conjunction of the condition holds.
+    pub within: u64,
 }

@@ -48,6 +48,30 @@ fn a_report_has_the_lines_that_were_asked_for(rt: HostRuntime) -> Result<(), Fai
     Ok(())
 }
 
+/// Two counts: of a test whose frames are none of its outcomes, and of one that was seen.
+#[test]
+fn a_count_has_its_seven_lines(rt: HostRuntime) -> Result<(), Fail> {
+    let alloc = rt.alloc();
+    let mut rows = CountReport {
+        name: name(&rt, alloc, b"iwp2.6")?,
+        threads: 4,
+        iterations: 30,
+        negated: false,
+        atoms: 4,
+        frames: 810000,
+        within: 0,
+    };
+    let none =
+        "Test iwp2.6\nThreads 4\nIterations 30\nCondition exists 4\nFrames 810000\nWithin 0\nSeen no\n";
+    assert_eq!(rt; count_report(alloc, &rows)?.as_str(), none);
+    rows.negated = true;
+    rows.within = 1;
+    let one =
+        "Test iwp2.6\nThreads 4\nIterations 30\nCondition ~exists 4\nFrames 810000\nWithin 1\nSeen yes\n";
+    assert_eq!(rt; count_report(alloc, &rows)?.as_str(), one);
+    Ok(())
+}
+
 /// An ASCII name.
 fn name(rt: &impl Abort, alloc: Global, bytes: &[u8]) -> Result<Name, NoMemory>
     ensures { IfOk result IsAscii }
