@@ -1,4 +1,5 @@
-"""What the benchmarks share: the two built programs, runs of them that are timed, and pages whose commands are run."""
+"""What the benchmarks share: the two built programs, runs of them that are timed, and pages whose commands are run; and the folder
+of the modules that they have in common with the tools."""
 import os
 import re
 import subprocess
@@ -10,6 +11,7 @@ HERE = os.path.dirname(os.path.abspath(__file__))
 TOP = os.path.dirname(HERE)
 PERPLE = os.path.join(TOP, "crates", "perple_main", "out", "perple_main")
 TOOL = os.path.join(TOP, "crates", "tool_main", "out", "tool_main")
+sys.path.append(os.path.join(TOP, "tools"))
 STARTERS = {PERPLE: "perple", TOOL: "perple_tool"}
 
 

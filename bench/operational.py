@@ -8,7 +8,7 @@ A thread is blocked while another one holds the lock. Its events:
 - a fence needs the own buffer empty;
 - an exchange takes the lock where nobody holds it, reads, writes to the own buffer, and gives the lock back once that buffer is empty.
 
-Nothing of it is shared with the programs, nor with bench/axiomatic.py; bench/litmus.py reads the texts."""
+Nothing of it is shared with the programs, nor with bench/axiomatic.py; tools/litmus.py reads the texts."""
 import collections
 
 # How many actions of each thread are done, the buffers of (location, value), memory, and the lock: None, or its holder and whether it

@@ -1,5 +1,5 @@
 """A reader of litmus texts and of their atoms' kinds, written from docs/FORMAT.md and docs/MODEL.md alone and sharing nothing with the
-program: what other scripts compare the program's answers with."""
+program: what the scripts of bench/ compare the program's answers with, and how tools/explain finds the place of a refusal."""
 import collections
 import re
 
@@ -33,14 +33,16 @@ def bad_token(kind, token):
     return bad(kind, token.line, token.at)
 
 
-def over(name, limit):
-    return Refused(7, "perple: limit %s %d\n" % (name, limit))
+def over(name, limit, at=None):
+    return Refused(7, "perple: limit %s %d\n" % (name, limit), at)
 
 
 class Test:
     def __init__(self, name):
         self.name, self.locations, self.bodies, self.negated, self.atoms, self.ends = name, [], [], False, [], []
         self.held = []  # by thread: what each register holds, ("constant", value) or ("read", place)
+        # where in the text each thread is named, each location for the first time, and by thread each action's cell
+        self.threads_at, self.locations_at, self.actions_at = [], [], []
 
     def conjunctions(self):
         return [self.atoms[start:end] for start, end in zip([0] + self.ends, self.ends)]
@@ -70,13 +72,16 @@ class Reader:
     def first_line(self):
         end = self.text.find(b"\n")
         line = self.text if end < 0 else self.text[:end]
-        words = [word for word in re.split(rb"[ \t\r]+", line) if word]
-        if not words or words[0] != b"X86":
-            raise bad(1, 1)
-        if len(words) != 2 or any(byte < 33 or byte > 126 for byte in words[1]):
-            raise bad(2, 1)
+        words = list(re.finditer(rb"[^ \t\r]+", line))
+        if not words or words[0].group() != b"X86":
+            raise bad(1, 1, words[0].start() if words else 0)
+        if len(words) != 2:
+            raise bad(2, 1, words[2].start() if len(words) > 2 else len(line))
+        faulty = re.search(rb"[^!-~]", words[1].group())
+        if faulty:
+            raise bad(2, 1, words[1].start() + faulty.start())
         self.at = len(line)
-        return words[1].decode("ascii")
+        return words[1].group().decode("ascii")
 
     def header(self):
         while True:
@@ -181,6 +186,7 @@ def cells_of(row):
 def location_number(test, token):
     if token.text not in test.locations:
         test.locations.append(token.text)
+        test.locations_at.append(token.at)
     return test.locations.index(token.text)
 
 
@@ -197,11 +203,12 @@ def read_cell(test, t, cell):
     if (mnemonic, shape) not in (("MOV", "[l],n"), ("MOV", "[l],r"), ("MOV", "r,[l]"), ("MOV", "r,n"), ("MFENCE", ""), ("XCHG", "[l],r"),
                                  ("XCHG", "r,[l]")) or any(number > MOST for number in numbers):
         raise bad_token(6, cell[0])
-    if shape == "":
-        body.append(Action("fence", None, None, None))
-        return
     if shape == "r,n":
         held[regs[0]] = ("constant", numbers[0])
+        return
+    test.actions_at[t].append(cell[0].at)
+    if shape == "":
+        body.append(Action("fence", None, None, None))
         return
     loc = location_number(test, locs[0])
     if mnemonic == "MOV" and shape == "r,[l]":
@@ -223,7 +230,9 @@ def read_code(reader, test):
     for number, cell in enumerate(cells_of(row)):
         if len(cell) != 1 or cell[0].kind != "name" or cell[0].text != "P%d" % number:
             raise bad_token(5, end)
+        test.threads_at.append(cell[0].at)
         test.bodies.append([])
+        test.actions_at.append([])
         test.held.append({reg: ("constant", 0) for reg in REGISTERS})
     while True:
         token = reader.peek()
@@ -336,10 +345,10 @@ def read(text):
     read_code(reader, test)
     read_quantifier(reader, test)
     read_condition(reader, test)
-    for name, limit, size in (("threads", 8, len(test.bodies)), ("locations", 16, len(test.locations)),
-                              ("instructions", 16, max(len(body) for body in test.bodies)), ("atoms", 32, len(test.atoms))):
-        if size > limit:
-            raise over(name, limit)
+    for name, limit, starts in (("threads", 8, test.threads_at), ("locations", 16, test.locations_at),
+                                ("instructions", 16, max(test.actions_at, key=len)), ("atoms", 32, [atom.at for atom in test.atoms])):
+        if len(starts) > limit:
+            raise over(name, limit, starts[limit])
     return test
 
 
