@@ -5,15 +5,20 @@ _perple_numbers() {
     --count) COMPREPLY=($(compgen -W 'exhaustive heuristic both' -- "$2")) ;;
     --rate) COMPREPLY=($(compgen -W '0 16 64 128 192 256' -- "$2")) ;;
     --buffer) COMPREPLY=($(compgen -W '1 2 4 8 16' -- "$2")) ;;
-    --order | --seed) COMPREPLY=($(compgen -W '0 1 2 3 4 5 6 7 8 9' -- "$2")) ;;
+    --order) COMPREPLY=($(compgen -W "${3-} 0 1 2 3 4 5 6 7 8 9" -- "$2")) ;;
+    --seed) COMPREPLY=($(compgen -W '0 1 2 3 4 5 6 7 8 9' -- "$2")) ;;
     --cut) COMPREPLY=($(compgen -W '1 4096 65536' -- "$2")) ;;
     *) return 1 ;;
     esac
 }
 
-# the options that were not given yet: none may be given twice
+# N where it is due, else the options of $1 that were not given yet: none may be given twice
 _perple_options() {
     local left='' option
+    if [ "$COMP_CWORD" -eq 2 ] && [ -z "$2" ]; then
+        COMPREPLY=($(compgen -W '1 10 100 1000 10000 100000' -- "$2"))
+        return
+    fi
     for option in $1; do
         case " ${COMP_WORDS[*]:1:COMP_CWORD-1} " in
         *" $option "*) ;;
@@ -35,22 +40,18 @@ _perple() {
     *) return ;;
     esac
     [ "${COMP_WORDS[1]}" = run ] || options="$options --order"
-    _perple_numbers "$before" "$word" && return
-    if [ "$COMP_CWORD" -eq 2 ] && [ -z "$word" ]; then
-        COMPREPLY=($(compgen -W '1 10 100 1000 10000 100000' -- "$word"))
-        return
-    fi
-    _perple_options "$options" "$word"
+    _perple_numbers "$before" "$word" || _perple_options "$options" "$word"
 }
 
 _perple_tool() {
-    local word=${COMP_WORDS[COMP_CWORD]}
+    local word=${COMP_WORDS[COMP_CWORD]} before=${COMP_WORDS[COMP_CWORD - 1]}
     COMPREPLY=()
     if [ "$COMP_CWORD" -eq 1 ]; then
-        COMPREPLY=($(compgen -W 'judge order witness verdict show faithful skew' -- "$word"))
+        COMPREPLY=($(compgen -W 'judge order witness verdict show faithful count skew' -- "$word"))
         return
     fi
     case ${COMP_WORDS[1]} in
+    count) _perple_numbers "$before" "$word" turns || _perple_options '--rate --buffer --seed --cut --order' "$word" ;;
     witness | skew) [ "$COMP_CWORD" -ne 2 ] || COMPREPLY=($(compgen -W '1 10 100 1000 10000 100000' -- "$word")) ;;
     esac
 }

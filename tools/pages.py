@@ -147,7 +147,7 @@ def synopsis(text, name):
     for line in lines:
         command, *rest = line.strip("`").split()
         out.append("\\fB%s %s\\fR %s%s%s" % (name, command, "".join("\\fI%s\\fR " % word for word in rest),
-                                             takes if command in ("run", "replay") and name == "perple" else "",
+                                             takes if command in ("run", "replay", "count") else "",
                                              "" if command == "demo" else "< \\fITEST\\fR"))
     return [line for entry in out for line in [entry.rstrip(), ".br"]][:-1]
 
