@@ -53,7 +53,7 @@ class Text:
     def conditioned(self, groups):
         """The text with another condition: atoms joined into conjunctions, and these by \\/."""
         front = self.raw[:self.condition_at()].decode("utf-8", "replace")
-        asked = " \\/ ".join(" /\\ ".join("%d:%s=%d" % (thread, reg.upper(), value) for thread, reg, value in group) for group in groups)
+        asked = " \\/ ".join(" /\\ ".join("%d:%s=%d" % (thread, reg.upper(), value) for thread, reg, value, *_ in group) for group in groups)
         return (front + "exists (%s)\n" % asked).encode()
 
     def condition_at(self):
