@@ -392,3 +392,23 @@ def kinds(test):
             form = "exact" if len(writers) == 1 and atom.thread not in writers else "rf"
             found.append(Kind(form, atom.thread, column, stores[rank - 1][0], len(stores), rank, place, loc))
     return found
+
+
+def asked(test):
+    """The registers that the condition names, by thread and then in their order; or the refusal of the first atom that asks for no read."""
+    for number, atom in enumerate(test.atoms, 1):
+        kind = 1 if atom.thread >= len(test.bodies) else 2 if test.held[atom.thread][atom.reg][0] != "read" else 0
+        if kind:
+            raise Refused(6, "perple: atom %d: kind %d %s\n" % (number, kind, PROFILE[kind - 1]), atom.at)
+    return sorted({(atom.thread, atom.reg) for atom in test.atoms}, key=lambda asked: (asked[0], REGISTERS.index(asked[1])))
+
+
+def satisfies(test, registers, state):
+    """Whether a state has all atoms of some conjunction."""
+    return any(has(group, registers, state) for group in test.conjunctions())
+
+
+def has(group, registers, state):
+    """Whether a state has all atoms of a conjunction."""
+    values = dict(zip(registers, state))
+    return all(values[atom.thread, atom.reg] == atom.value for atom in group)
