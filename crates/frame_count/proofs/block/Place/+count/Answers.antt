@@ -41,6 +41,7 @@ loop-at-init t c =
       within = c.requires.numbers.0;
       here = λ _. (omega arith, mod_below c.args.from step some);
       kept = b.kept;
+      remembered = c.requires.blocks;
       front = refl;
       counted =
           counted_none (block_holds task.conds.now task.logs.now.logs task.n c.args.p c.args.self.now.frame) c.args.from;
@@ -81,7 +82,7 @@ count-hits-requires t c =
         (
           inner_block c.args.task.now c.loop-at.self c.set.new.self c.left-now.result c.args.p c.args.size c.loop-at.i
               c.requires.task c.loop-at.invariant.kept c.set.ensures digit more other b.size_is c.left-now.ensures,
-          (omega arith, omega arith),
+          (c.loop-at.invariant.remembered, (omega arith, omega arith)),
         ),
       ),
     )
@@ -205,6 +206,7 @@ loop-at-preserved t c =
         some,
       );
       kept = c.count-hits.ensures.place;
+      remembered = c.count-hits.ensures.blocks;
       front =
           front_less c.args.p c.count-hits.new.self.frame c.set.new.self c.count-hits.ensures.front
           ∙ ap (take c.args.p) c.set.ensures
