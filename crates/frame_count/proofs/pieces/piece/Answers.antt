@@ -12,7 +12,7 @@ count_in-requires-clause-block c =
     let task = c.new-task.ensures in
     first_block c.new-task.result c.new-place.result c.args.logs.now.logs c.args.n c.power-size.result task.task
     c.new-place.ensures task.logs task.n c.requires.threads.0
-    (c.power-size.ensures ∙ ap (λ t. c.args.n ^ t) c.len-2.ensures)
+    (c.power-size.ensures ∙ ap (λ t. c.args.n ^ t) c.len.ensures)
 
 pub returns : goal.returns
 returns c =

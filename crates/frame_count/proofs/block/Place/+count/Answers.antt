@@ -88,7 +88,7 @@ count-hits-requires t c =
     )
 
 -- the hits of all blocks that count alike
-all_hits : (t : ℕ) (c : goal.After-count-hits t) → c.how_many_alike-times.result * c.count-hits.result
+all_hits : (t : ℕ) (c : goal.After-blocks-in-loop-at-1 t) → c.how_many_alike-times.result * c.count-hits.result
     ≡ count_by (block_holds c.args.task.now.conds.now c.args.task.now.logs.now.logs c.args.task.now.n c.args.p
     c.args.self.now.frame) (range_with_len c.loop-at.at (c.how_many_alike-times.result * c.min-some.result))
 all_hits t c =
@@ -120,7 +120,7 @@ all_hits t c =
     ∙ ap (λ f. block_count task (c.args.p + 1) f c.loop-at.start (c.loop-at.start + c.min-some.result)) set)
 
 -- they are within the numbers that are left
-fits : (t : ℕ) (c : goal.After-count-hits t) → c.how_many_alike-times.result * c.min-some.result
+fits : (t : ℕ) (c : goal.After-blocks-in-loop-at-1 t) → c.how_many_alike-times.result * c.min-some.result
     ≤ c.args.to - c.loop-at.at
 fits t c =
     times_fit c.how_many_alike-times.result c.min-some.result (c.args.size / c.args.task.now.n) c.loop-at.start

@@ -7,7 +7,7 @@ returns-then-all_alike c =
     let b = c.requires.block in
     let s = frame_size c.args.task.now c.args.self.now c.args.alive.now c.args.p c.args.size c.requires.task b in
     let p = c.if-p-eq0.false in
-    let low = c.if-slot-len.false in
+    let low = c.if-slot-blocks.false in
     tells_here c.args.task.now.conds.now c.args.task.now.logs.now.logs c.args.task.now.n c.args.p c.args.size _
     c.args.self.now.frame c.args.alive.now (c.requires.blocks c.slot-slot.result _ (omega arith))
     c.if-block-p.true (omega arith) s.0
