@@ -1,21 +1,24 @@
 -- The counts of blocks, and what is remembered of them.
-use Rattle.std.proofs.Common.{◌≡◌, ℕ, suc, ◌+◌, ◌-◌, ◌*◌, ◌/◌, ◌^◌, ◌<◌, ◌≤◌, ◌⊎◌, inl, inr, Bool, true, false, Some, List, [], ◌∷◌, add-one, zero, count_by, get_or, length, set, slice_index, take, replicate, ◌++◌, refl, sym, ap, ◌∙◌, arith, subst, length-set}
+use Rattle.std.proofs.Common.{◌≡◌, ℕ, suc, ◌+◌, ◌-◌, ◌*◌, ◌/◌, ◌^◌, ◌<◌, ◌≤◌, ◌⊎◌, inl, inr, Bool, true, false, All, List, [], ◌∷◌, add-one, zero, count_by, get_or, length, set, slice_index, take, replicate, ◌++◌, refl, sym, ap, ◌∙◌, arith, subst, length-set}
 use Rattle.std.proofs.lemmas.Bool.{cases_eq, cases_lt}
 use Rattle.std.proofs.lemmas.Grind.{get_or-set_at}
 use Rattle.std.proofs.lemmas.List.{get_or-replicate, get_or-set_other, length-replicate, take-set}
+use Rattle.std.proofs.lemmas.List.Elements.{All-set}
 use Rattle.std.proofs.lemmas.Nat.{mul-le}
 use native.Mathlib.Nat.{mul_comm, pow-suc, pow-zero}
 use Rattle.tso_machine.specs.Frame.{frame_of}
-use Rattle.std.specs.List.{range_with_len}
+use Rattle.std.specs.List.{list_all, range_with_len}
 use Rattle.x86_subset.specs.Conjunctions.{conjunction_of}
-use Rattle.load_log.specs.Values.{AreWhole, Values}
+use Rattle.load_log.specs.Values.{AreWhole, Values, value_at}
 use Rattle.outcome_conv.specs.Conditions.{Conditions}
-use Rattle.frame_count.specs.Block.{Alive, AreAlike, AreRemembered, IsBlock, IsPlace, IsRemembered, IsTask, SettledBy, block_count, block_holds}
+use Rattle.outcome_conv.specs.Conds.{cond_holds}
+use Rattle.frame_count.specs.Block.{Alive, AreAlike, IsBlock, IsPlace, IsRemembered, IsTask, SettledBy, block_count, block_holds, so_far}
 use Rattle.frame_count.specs.Count.{IsFrameOf, frame_holds, number_holds, with_last}
+use Rattle.frame_count.specs.Rows.{OthersFail}
 use Rattle.frame_count.specs.declared.block.Block.{Block}
 use Rattle.frame_count.specs.declared.block.Place.{Place}
 use Rattle.frame_count.specs.declared.block.Task.{Task}
-use Rattle.frame_count.proofs.Blocks.{alike_holds, all_at_first, dead, inner_count, last_frame, pow_some, whole}
+use Rattle.frame_count.proofs.Blocks.{alike_holds, all_at_first, dead, fails, inner_count, last_frame, pow_some, whole}
 use Rattle.frame_count.proofs.Digits.{pow_step}
 use Rattle.frame_count.proofs.Counts.{IsCountedTo, count_all, count_moved, count_outside}
 
@@ -80,52 +83,18 @@ frame_size task place alive p size t b =
     )
 
 pub place_remembers : (task : Task) (place : Place) (alive : List Bool) (p size from to hits slot : ℕ) (its : List ℕ)
-    (before after : List Block)
+    (before : List Block)
     → IsTask task → IsBlock task place alive p size → from ≤ to → to ≤ size → to - from ≡ size
     → hits ≡ block_count task p place.frame from to → length its ≡ 8 → length alive ≡ 8
-    → ((q : ℕ) → q < length place.frame → slice_index its q ≡ slice_index place.frame q) → slot < 2048
-    → place.blocks ≡ Some before
-    → after ≡ set before slot (record { fixed = p; iterations = its; alive = alive; hits = hits })
-    → AreRemembered task.conds.now task.logs.now.logs task.n after
-place_remembers task place alive p size from to hits slot its before after t b order end all count il al same low there e =
+    → ((q : ℕ) → q < length place.frame → slice_index its q ≡ slice_index place.frame q)
+    → All (IsRemembered task.conds.now task.logs.now.logs task.n) before
+    → All (IsRemembered task.conds.now task.logs.now.logs task.n)
+    (set before slot (record { fixed = p; iterations = its; alive = alive; hits = hits }))
+place_remembers task place alive p size from to hits slot its before t b order end all count il al same kept =
     let s = frame_size task place alive p size t b in
     let new = remembered task.conds.now task.logs.now.logs task.n p size from to hits place.frame its alive
     b.kept.frame s.0 s.1 order end all b.alive_is count il al same in
-    let kept = b.kept.blocks before there in
-    rw e (record {
-      many = length-set before slot _ ∙ kept.many;
-      each = λ k d l. go kept new k d l (cases_eq k slot);
-    })
-  where
-    go : AreRemembered task.conds.now task.logs.now.logs task.n before
-        → IsRemembered task.conds.now task.logs.now.logs task.n (record {
-          fixed = p;
-          iterations = its;
-          alive = alive;
-          hits = hits;
-        })
-        → (k : ℕ) (d : Block) → k < 2048 → (k ≡ slot) ⊎ (k ≡ slot → ⊥)
-        → IsRemembered task.conds.now task.logs.now.logs task.n (get_or (set before slot (record {
-          fixed = p;
-          iterations = its;
-          alive = alive;
-          hits = hits;
-        })) k d)
-    go kept new k d l (inl q) =
-        let many = kept.many in
-        rw (get_or-set_at before slot k (record {
-          fixed = p;
-          iterations = its;
-          alive = alive;
-          hits = hits;
-        }) d q (omega arith)) new
-    go kept new k d l (inr ne) =
-        rw (get_or-set_other before slot k (record {
-          fixed = p;
-          iterations = its;
-          alive = alive;
-          hits = hits;
-        }) d ne) (kept.each k d l)
+    All-set (IsRemembered task.conds.now task.logs.now.logs task.n) before slot _ new kept
 
 -- The last row.
 pub last_count : (c : Conditions) (logs : List Values) (n p from to : ℕ) (f : List ℕ) → p + 1 ≡ length f → to ≤ n
@@ -135,25 +104,36 @@ last_count c logs n p from to f e le =
     count_moved (λ m. frame_holds c logs (with_last f m)) (block_holds c logs n p f) from from (to - from)
     (λ i l. ap (frame_holds c logs) (sym (last_frame n p (from + i) f e (omega arith))))
 
+-- Conjunctions that are not left fail in the row of a frame.
+
+pub others_fail : (c : Conditions) (logs : List Values) (n p to : ℕ) (f : List ℕ) (alive : List Bool)
+    → p + 1 ≡ length f → to ≤ n → Alive c logs p f alive → OthersFail c logs to f alive
+others_fail c logs n p to f alive e le a j m l none lt =
+    let xs = conjunction_of c.ends c.conds j in
+    let dead : list_all (so_far logs p f) xs ≡ false = sym (a j true l) ∙ none in
+    ap (λ g. list_all (cond_holds (value_at logs) g) xs) (sym (last_frame n p m f e (omega arith)))
+    ∙ fails logs p f (frame_of n (length f - p) m) xs (omega arith) dead
+
+-- and where all are left, there are no others
+all_left : (n j : ℕ) → get_or (replicate n true) j true ≡ true
+all_left zero j = refl
+all_left (suc n) zero = refl
+all_left (suc n) (suc j) = all_left n j
+
+pub none_fail : (c : Conditions) (logs : List Values) (n : ℕ) (f : List ℕ) → OthersFail c logs n f (replicate 8 true)
+none_fail c logs n f j m l none lt =
+    absurd (let z : true ≡ false = sym (all_left 8 j) ∙ none in cc)
+
 -- At the start.
 
--- blocks of which none is fixed tell nothing
-pub none_remembered : (c : Conditions) (logs : List Values) (n : ℕ) (blocks : List Block) (b : Block)
-    → blocks ≡ replicate 2048 b → b.fixed ≡ 0 → length b.iterations ≡ 8 → length b.alive ≡ 8
-    → AreRemembered c logs n blocks
-none_remembered c logs n blocks b e none its alive = record {
-  many = ap length e ∙ length-replicate 2048 b;
-  each = λ k d l.
-      let h : get_or blocks k d ≡ b = ap (λ z. get_or z k d) e ∙ get_or-replicate 2048 k b d l in
-      rw h (record { iterations = its; alive = alive; tells = λ f a one. absurd (omega arith) });
+-- a block of which no thread is fixed tells nothing
+pub none_remembered : (c : Conditions) (logs : List Values) (n : ℕ) (b : Block) → b.fixed ≡ 0
+    → length b.iterations ≡ 8 → length b.alive ≡ 8 → IsRemembered c logs n b
+none_remembered c logs n b none its alive = record {
+  iterations = its;
+  alive = alive;
+  tells = λ f a one. absurd (omega arith);
 }
-
-pub some_none : (c : Conditions) (logs : List Values) (n : ℕ) (blocks room : List Block) (b : Block)
-    → room ≡ replicate 2048 b → Some room ≡ Some blocks → b.fixed ≡ 0 → length b.iterations ≡ 8 → length b.alive ≡ 8
-    → AreRemembered c logs n blocks
-some_none c logs n blocks room b e some none its alive =
-    let same : blocks ≡ room = cc in
-    none_remembered c logs n blocks b (same ∙ e) none its alive
 
 pub first_frame : (logs : List Values) (n : ℕ) (frame : List ℕ) → 1 ≤ n → 1 ≤ length logs → AreWhole n logs
     → frame ≡ replicate (length logs) 0 → IsFrameOf logs n frame
@@ -230,14 +210,13 @@ inner_hits c logs n t p size step i start some at hits f g one lt ft fg long e b
 pub inner_block : (task : Task) (place : Place) (new : List ℕ) (now : List Bool) (p size i : ℕ) → IsTask task
     → IsPlace task place → new ≡ set place.frame p i → i < task.n → p < task.threads → (p + 1 ≡ task.threads → ⊥)
     → size ≡ task.n ^ (task.threads - p) → Alive task.conds.now task.logs.now.logs (p + 1) new now
-    → IsBlock task (record { frame = new; row = place.row; blocks = place.blocks }) now (p + 1) (size / task.n)
+    → IsBlock task (record { frame = new; row = place.row }) now (p + 1) (size / task.n)
 inner_block task place new now p size i t k e lt more other long alive = record {
   kept = record {
     frame =
         (let P : List ℕ → Type 0 = λ f. IsFrameOf task.logs.now.logs task.n f in
         subst P (sym e) (set_frame task.logs.now.logs task.n p i place.frame k.frame lt));
     row = k.row;
-    blocks = k.blocks;
   };
   more = omega arith;
   size_is = pow_step task.n task.threads p size t.some more long;

@@ -164,6 +164,12 @@ splits logs p f tail xs l =
     all_both (cond_holds (value_at logs) (take p f ++ tail)) (so_far logs p f) (rest logs p (take p f ++ tail)) xs
     (λ x. splits_one logs p f tail x l)
 
+-- A conjunction that is not left.
+pub fails : (logs : List Values) (p : ℕ) (f tail : List ℕ) (xs : List Cond) → p ≤ length f
+    → list_all (so_far logs p f) xs ≡ false → list_all (cond_holds (value_at logs) (take p f ++ tail)) xs ≡ false
+fails logs p f tail xs l h =
+    splits logs p f tail xs l ∙ ap (λ b. b && list_all (rest logs p (take p f ++ tail)) xs) h
+
 -- No conjunction is left.
 pub dead : (c : Conditions) (logs : List Values) (p : ℕ) (f tail : List ℕ) (alive : List Bool)
     → p ≤ length f → Alive c logs p f alive → ((j : ℕ) (d : Bool) → j < length c.ends → get_or alive j d ≡ false)
@@ -171,9 +177,7 @@ pub dead : (c : Conditions) (logs : List Values) (p : ℕ) (f tail : List ℕ) (
 dead c logs p f tail alive l a none =
     any_none (list_all (cond_holds (value_at logs) (take p f ++ tail))) c.ends c.conds
     (λ j lt.
-    let xs = conjunction_of c.ends c.conds j in
-    let h : list_all (so_far logs p f) xs ≡ false = sym (a j true lt) ∙ none j true lt in
-    splits logs p f tail xs l ∙ ap (λ b. b && list_all (rest logs p (take p f ++ tail)) xs) h)
+    fails logs p f tail (conjunction_of c.ends c.conds j) l (sym (a j true lt) ∙ none j true lt))
 
 -- A conjunction is settled.
 

@@ -4,6 +4,7 @@ pub mod Conjoining
 pub mod Counts
 pub mod Cuts
 pub mod Digits
+pub mod EachLog
 pub mod Knowing
 pub mod LogsOfRuns
 pub mod Masks

@@ -1,6 +1,6 @@
 -- Blocks of frames: those with the same iterations of the first p threads are neighbours in the order of their numbers
 -- (this project's own).
-use Rattle.std.specs.Prelude.{◌≡◌, ℕ, ◌+◌, ◌-◌, ◌^◌, ◌<◌, ◌≤◌, ◌&&◌, ◌||◌, Bool, true, not, Some, List, ◌++◌, All, count_by, length, nat_lt, slice_index, slice_index_or, slice_set, take}
+use Rattle.std.specs.Prelude.{◌≡◌, ℕ, ◌+◌, ◌-◌, ◌^◌, ◌<◌, ◌≤◌, ◌&&◌, ◌||◌, Bool, true, not, List, ◌++◌, All, count_by, length, nat_lt, slice_index, slice_index_or, slice_set, take}
 use Rattle.std.specs.List.{list_all, range_with_len}
 use Rattle.perp_base.specs.declared.limits.TheConstants.{MOST_FRAMES, MOST_ITERATIONS}
 use Rattle.x86_subset.specs.Conjunctions.{conjunction_of}
@@ -84,11 +84,6 @@ pub record IsRemembered (c : Conditions) (logs : List Values) (n : ℕ) (b : Blo
   pub alive : length b.alive ≡ 8
   pub tells : BlockTells c logs n b
 
--- and each of so many
-pub record AreRemembered (c : Conditions) (logs : List Values) (n : ℕ) (blocks : List Block) : Type 0 where
-  pub many : length blocks ≡ 2048
-  pub each : (k : ℕ) (d : Block) → k < 2048 → IsRemembered c logs n (slice_index_or blocks k d)
-
 -- what is counted
 pub record IsTask (task : Task) : Type 0 where
   pub some : 1 ≤ task.n
@@ -101,12 +96,10 @@ pub record IsTask (task : Task) : Type 0 where
   pub conjunctions : length task.conds.now.ends ≤ 8
   pub settled : SettledBy task.conds.now task.settled_by
 
--- what is remembered is so
+-- the frame is one of the logs, and what is remembered of a row is so
 pub record IsPlace (task : Task) (place : Place) : Type 0 where
   pub frame : IsFrameOf task.logs.now.logs task.n place.frame
   pub row : Counts task.conds.now task.logs.now.logs place.row
-  pub blocks : (blocks : List Block) → place.blocks ≡ Some blocks
-      → AreRemembered task.conds.now task.logs.now.logs task.n blocks
 
 -- the hits of the block from one of its numbers on
 abbrev pub block_count : Task → ℕ → List ℕ → ℕ → ℕ → ℕ

@@ -1,9 +1,9 @@
 //! Blocks of frames: those with the same iterations of the first threads are neighbours in the order of their numbers.
-ghost use Rattle.std.specs.Prelude.{◌≡◌, ℕ, ◌-◌, ◌+◌, ◌^◌, ◌*◌, ◌<◌, ◌≤◌, Bool, All, IfSome, List, Some, false, length, slice_index, slice_index_or, slice_set, take, true};
+ghost use Rattle.std.specs.Prelude.{◌≡◌, ℕ, ◌-◌, ◌+◌, ◌^◌, ◌*◌, ◌<◌, ◌≤◌, Bool, All, IfSome, List, false, length, slice_index, slice_index_or, slice_set, take, true};
 ghost use Rattle.load_log.specs.Values.{AreWhole, Values};
 ghost use Rattle.outcome_conv.specs.Conditions.{Conditions};
 ghost use Rattle.perp_base.specs.declared.limits.TheConstants.{MOST_FRAMES, MOST_ITERATIONS};
-ghost use Rattle.frame_count.specs.Block.{Alive, AreRemembered, StayAlike, IsBlock, IsPlace, IsTask, SettledBy, block_count};
+ghost use Rattle.frame_count.specs.Block.{Alive, IsBlock, IsPlace, IsRemembered, IsTask, SettledBy, StayAlike, block_count};
 ghost use Rattle.frame_count.specs.Count.{IsFrameOf, IsOfLogs};
 ghost use Rattle.frame_count.specs.Counted.{Counts};
 ghost use Rattle.frame_count.specs.Known.{Tells};
@@ -16,8 +16,8 @@ use load_log::Logs;
 use outcome_conv::{Cond, Conds};
 use perp_base::{Frame, MOST_CONJUNCTIONS, MOST_THREADS};
 
-/// How many blocks are remembered.
-const MOST_BLOCKS: usize = 2048;
+/// How many blocks are remembered where there is room for them: 256 for each number of threads that are fixed.
+pub(crate) const MOST_BLOCKS: usize = 2048;
 
 /// The iterations of the first threads, the conjunctions that they leave, and the hits of the block.
 #[derive(Clone, Copy)]
@@ -26,6 +26,20 @@ pub(crate) struct Block {
     pub iterations: [u32; MOST_THREADS],
     pub alive: [bool; MOST_CONJUNCTIONS],
     pub hits: u64,
+}
+
+impl Block {
+    /// A block of which no thread is fixed: it tells nothing.
+    pub(crate) fn nothing() -> Block
+        ensures { (conds : Conditions) (logs : List Values) (n : ℕ) → IsRemembered conds logs n result }
+    {
+        Block {
+            fixed: 0,
+            iterations: [0; MOST_THREADS],
+            alive: [false; MOST_CONJUNCTIONS],
+            hits: 0,
+        }
+    }
 }
 
 /// What is counted, how many threads settle each conjunction, and by which thread's iteration a block is looked for.
@@ -90,13 +104,11 @@ impl<'a> Task<'a> {
     }
 }
 
-/// Where the count has come to: the frame, and a row and blocks that are remembered. To make room for blocks takes as
-/// long as some hundred rows, so few frames are counted without.
+/// Where the count has come to: the frame, and a row that is remembered.
 #[derive(Drop)]
 pub(crate) struct Place {
     pub frame: Frame,
     pub row: Counted,
-    pub blocks: Option<[Block; MOST_BLOCKS]>,
 }
 
 /// Whether no conjunction is left.
@@ -198,27 +210,9 @@ fn how_many_alike(
     ((until - i) as u64).min(most)
 }
 
-/// Room for blocks, of which none is remembered yet, or no room.
-fn no_blocks(room: bool) -> Option<[Block; MOST_BLOCKS]>
-    ensures { (conds : Conditions) (logs : List Values) (n : ℕ) (blocks : List Block) → result ≡ Some blocks
-        → AreRemembered conds logs n blocks }
-{
-    let block = Block {
-        fixed: 0,
-        iterations: [0; MOST_THREADS],
-        alive: [false; MOST_CONJUNCTIONS],
-        hits: 0,
-    };
-    if room {
-        Some([block; MOST_BLOCKS])
-    } else {
-        None
-    }
-}
-
 impl Place {
-    /// The first frame, with room for blocks or without.
-    pub(crate) fn new(task: &Task, row: Counted, room: bool) -> Place
+    /// The first frame.
+    pub(crate) fn new(task: &Task, row: Counted) -> Place
         requires threads { (1 ≤ length task.now.logs.now.logs) × (length task.now.logs.now.logs ≤ 8) }
         requires some { 1 ≤ task.now.n }
         requires whole { AreWhole task.now.n task.now.logs.now.logs }
@@ -228,15 +222,12 @@ impl Place {
         Place {
             frame: Frame::filled(task.logs.len(), 0),
             row,
-            blocks: no_blocks(room),
         }
     }
 
     /// Where a block is looked for: by the iteration of the last thread that a condition speaks of beside one that is not
     /// fixed.
-    fn slot(&self, task: &Task, p: usize) -> usize
-        ensures { result < 2048 }
-    {
+    fn slot(&self, task: &Task, p: usize) -> usize {
         let key = task.keys[p % MOST_THREADS];
         let iteration = if key < self.frame.len() {
             self.frame.at(key)
@@ -250,28 +241,26 @@ impl Place {
     fn remembered(
         &self,
         task: &Task,
+        blocks: &[Block],
         alive: &[bool; MOST_CONJUNCTIONS],
         p: usize,
         size: u64,
     ) -> Option<u64>
         requires task { IsTask task.now }
         requires block { IsBlock task.now self.now alive.now p size }
+        requires blocks { All (IsRemembered task.now.conds.now task.now.logs.now.logs task.now.n) blocks.now }
         ensures { IfSome result (λ hits. hits ≡ block_count task.now p self.now.frame 0 size) }
     {
-        if p == 0 {
+        let slot = self.slot(task, p);
+        if p == 0 || slot >= blocks.len() {
             return None;
         }
-        match &self.blocks {
-            None => None,
-            Some(blocks) => {
-                let block = &blocks[self.slot(task, p)];
-                let (left, before) = (&block.alive, &block.iterations);
-                if block.fixed == p && all_alike(task.conds, p, left, alive, before, &self.frame) {
-                    Some(block.hits)
-                } else {
-                    None
-                }
-            }
+        let block = &blocks[slot];
+        let (left, before) = (&block.alive, &block.iterations);
+        if block.fixed == p && all_alike(task.conds, p, left, alive, before, &self.frame) {
+            Some(block.hits)
+        } else {
+            None
         }
     }
 
@@ -279,6 +268,7 @@ impl Place {
     fn told(
         &self,
         task: &Task,
+        blocks: &[Block],
         alive: &[bool; MOST_CONJUNCTIONS],
         p: usize,
         size: u64,
@@ -287,6 +277,7 @@ impl Place {
     ) -> Option<u64>
         requires task { IsTask task.now }
         requires block { IsBlock task.now self.now alive.now p size }
+        requires blocks { All (IsRemembered task.now.conds.now task.now.logs.now.logs task.now.n) blocks.now }
         requires numbers { (from ≤ to) × (to ≤ size) }
         ensures { IfSome result (λ hits. hits ≡ block_count task.now p self.now.frame from to) }
     {
@@ -295,16 +286,17 @@ impl Place {
         } else if is_whole(task, alive, p) {
             Some(to - from)
         } else if to - from == size {
-            self.remembered(task, alive, p, size)
+            self.remembered(task, blocks, alive, p, size)
         } else {
             None
         }
     }
 
-    /// Remembers the hits of a block, if it is whole.
+    /// Remembers the hits of a block, if it is whole and there is room.
     fn remember(
-        &mut self,
+        &self,
         task: &Task,
+        blocks: &mut [Block],
         alive: &[bool; MOST_CONJUNCTIONS],
         p: usize,
         size: u64,
@@ -313,30 +305,35 @@ impl Place {
         hits: u64,
     )
         requires task { IsTask task.now }
-        requires block { IsBlock task.now self.old alive.now p size }
+        requires block { IsBlock task.now self.now alive.now p size }
+        requires blocks { All (IsRemembered task.now.conds.now task.now.logs.now.logs task.now.n) blocks.old }
         requires numbers { (from ≤ to) × (to ≤ size) }
-        requires hits { hits ≡ block_count task.now p self.old.frame from to }
-        ensures place { IsPlace task.now self.new }
-        ensures frame { self.new.frame ≡ self.old.frame }
+        requires hits { hits ≡ block_count task.now p self.now.frame from to }
+        ensures { All (IsRemembered task.now.conds.now task.now.logs.now.logs task.now.n) blocks.new }
     {
-        if p > 0 && to - from == size {
-            let block = Block {
+        let slot = self.slot(task, p);
+        if p > 0 && to - from == size && slot < blocks.len() {
+            blocks[slot] = Block {
                 fixed: p,
                 iterations: iterations(&self.frame),
                 alive: *alive,
                 hits,
             };
-            let slot = self.slot(task, p);
-            if let Some(blocks) = &mut self.blocks {
-                blocks[slot] = block;
-            }
         }
     }
 
     /// The hits of the numbers from `from` up to and without `to` of a row.
-    fn last(&mut self, task: &Task, p: usize, from: u64, to: u64) -> u64
+    fn last(
+        &mut self,
+        task: &Task,
+        alive: &[bool; MOST_CONJUNCTIONS],
+        p: usize,
+        from: u64,
+        to: u64,
+    ) -> u64
         requires task { IsTask task.now }
         requires place { IsPlace task.now self.old }
+        requires alive { Alive task.now.conds.now task.now.logs.now.logs p self.old.frame alive.now }
         requires last { p + 1 ≡ task.now.threads }
         requires numbers { (from ≤ to) × (to ≤ task.now.n) }
         ensures hits { result ≡ block_count task.now p self.old.frame from to }
@@ -348,16 +345,18 @@ impl Place {
             task.logs,
             task.known,
             &self.frame,
+            alive,
             from as usize,
             to as usize,
         )
     }
 
     /// The hits of the numbers from `from` up to and without `to` of the block of the first `p` iterations of the
-    /// frame.
+    /// frame. Where there is room, blocks are remembered.
     pub(crate) fn count(
         &mut self,
         task: &Task,
+        blocks: &mut [Block],
         alive: [bool; MOST_CONJUNCTIONS],
         p: usize,
         size: u64,
@@ -366,17 +365,19 @@ impl Place {
     ) -> u64
         requires task { IsTask task.now }
         requires block { IsBlock task.now self.old alive p size }
+        requires blocks { All (IsRemembered task.now.conds.now task.now.logs.now.logs task.now.n) blocks.old }
         requires numbers { (from ≤ to) × (to ≤ size) }
         ensures hits { result ≡ block_count task.now p self.old.frame from to }
         ensures place { IsPlace task.now self.new }
+        ensures blocks { All (IsRemembered task.now.conds.now task.now.logs.now.logs task.now.n) blocks.new }
         ensures front { take p self.new.frame ≡ take p self.old.frame }
     {
-        if let Some(hits) = self.told(task, &alive, p, size, from, to) {
+        if let Some(hits) = self.told(task, blocks, &alive, p, size, from, to) {
             return hits;
         }
         if p + 1 == task.threads {
-            let hits = self.last(task, p, from, to);
-            self.remember(task, &alive, p, size, from, to, hits);
+            let hits = self.last(task, &alive, p, from, to);
+            self.remember(task, blocks, &alive, p, size, from, to, hits);
             return hits;
         }
         let step = size / task.n as u64;
@@ -400,13 +401,13 @@ impl Place {
                 step,
                 room,
             );
-            let hits = self.count(task, now, p + 1, step, start, start + some);
+            let hits = self.count(task, blocks, now, p + 1, step, start, start + some);
             total += times * hits;
             at += times * some;
             i += times;
             start = 0;
         }
-        self.remember(task, &alive, p, size, from, to, total);
+        self.remember(task, blocks, &alive, p, size, from, to, total);
         total
     }
 }

@@ -6,6 +6,7 @@ ghost use Rattle.outcome_conv.specs.Conditions.{Conditions};
 ghost use Rattle.frame_count.specs.Count.{IsFrameOf, IsOfLogs, frame_holds, with_last};
 ghost use Rattle.frame_count.specs.Counted.{Counts};
 ghost use Rattle.frame_count.specs.Known.{Tells};
+ghost use Rattle.frame_count.specs.Rows.{OthersFail};
 ghost use Rattle.frame_count.specs.declared.stretch.Stretch.{Stretch};
 ghost use Rattle.perp_base.specs.declared.limits.TheConstants.{MOST_ITERATIONS};
 
@@ -53,7 +54,7 @@ impl Counted {
         }
     }
 
-    /// The hits of the next row. One with the same bounds and stretches as the row that is remembered, where what they
+    /// The hits of the next row, of which these conjunctions are left. One with the same bounds and stretches as the row that is remembered, where what they
     /// leave to test is the same in each row, has as many, and none of its frames is visited. Else it is the one to
     /// remember, if a stretch of it is not empty.
     pub(crate) fn next(
@@ -62,19 +63,21 @@ impl Counted {
         logs: &Logs,
         known: &Known,
         frame: &Frame,
+        left: &[bool; MOST_CONJUNCTIONS],
         from: usize,
         to: usize,
     ) -> u64
         requires frame { (n : ℕ) × (from ≤ to) × (to ≤ n) × IsFrameOf logs.now.logs n frame.now }
         requires few { to ≤ MOST_ITERATIONS }
         requires names { All (IsOfLogs logs.now.logs) conds.now.conds }
+        requires others { OthersFail conds.now logs.now.logs to frame.now left.now }
         requires known { Tells conds.now logs.now.logs known.now }
         requires counts { Counts conds.now logs.now.logs self.old }
         ensures hits { result ≡ count_by (λ m. frame_holds conds.now logs.now.logs (with_last frame.now m))
             (range_with_len from (to - from)) }
         ensures counts { Counts conds.now logs.now.logs self.new }
     {
-        let stretches = reaches(conds, logs, frame, to);
+        let stretches = reaches(conds, logs, frame, left, to);
         let some = &stretches[..conds.conjunctions()];
         if self.from == from && self.to == to && count_alike(&self.stretches, some) {
             return self.hits;

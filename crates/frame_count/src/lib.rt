@@ -39,6 +39,8 @@ mod laws;
 mod numbers;
 mod pieces;
 mod reach;
+#[cfg(test)]
+mod ring_tests;
 mod row;
 mod so_far;
 mod stretch;

@@ -1,14 +1,15 @@
 //! The count over all frames, by pieces.
-ghost use Rattle.std.specs.Prelude.{◌≡◌, ℕ, ◌+◌, ◌-◌, ◌*◌, ◌/◌, ◌<◌, ◌≤◌, ◌^◌, length, count_by, All};
+ghost use Rattle.std.specs.Prelude.{◌≡◌, ℕ, ◌+◌, ◌-◌, ◌*◌, ◌/◌, ◌<◌, ◌≤◌, ◌^◌, length, count_by, replicate, true, All};
 ghost use Rattle.std.specs.List.{range_with_len};
 ghost use Rattle.load_log.specs.Values.{AreWhole, value_at};
 ghost use Rattle.outcome_conv.specs.Conds.{count_of};
+ghost use Rattle.frame_count.specs.Block.{IsBlock, IsTask, block_count};
 ghost use Rattle.frame_count.specs.Counted.{Counts};
 ghost use Rattle.frame_count.specs.Known.{Tells};
 ghost use Rattle.frame_count.specs.Count.{CanCount, IsOfLogs, number_holds, piece_by_turns, piece_count};
 ghost use Rattle.perp_base.specs.declared.limits.TheConstants.{MOST_FRAMES, MOST_ITERATIONS, MOST_PIECES, MOST_THREADS};
 
-use crate::block::{Place, Task};
+use crate::block::{Block, MOST_BLOCKS, Place, Task};
 use crate::counted::Counted;
 use crate::known::Known;
 use crate::numbers::{frame_of, power};
@@ -33,8 +34,35 @@ fn first_row(conds: &Conds, logs: &Logs, known: &Known, n: u32) -> Counted
 {
     let frame = frame_of(0, n, logs.len());
     let mut counted = Counted::nothing();
-    counted.next(conds, logs, known, &frame, 0, n as usize);
+    let all = [true; MOST_CONJUNCTIONS];
+    counted.next(conds, logs, known, &frame, &all, 0, n as usize);
     counted
+}
+
+/// The hits of the numbers from `from` up to and without `to` of all frames, where blocks are remembered.
+fn count_remembering(task: &Task, place: &mut Place, size: u64, from: u64, to: u64) -> u64
+    requires task { IsTask task.now }
+    requires block { IsBlock task.now place.old (replicate 8 true) 0 size }
+    requires numbers { (from ≤ to) × (to ≤ size) }
+    ensures { result ≡ block_count task.now 0 place.old.frame from to }
+{
+    let mut blocks = [Block::nothing(); MOST_BLOCKS];
+    let alive = [true; MOST_CONJUNCTIONS];
+    place.count(task, &mut blocks, alive, 0, size, from, to)
+}
+
+/// The same, where blocks are remembered if that pays: to make room for them takes as long as some hundred rows.
+fn count_in(task: &Task, place: &mut Place, size: u64, from: u64, to: u64) -> u64
+    requires task { IsTask task.now }
+    requires block { IsBlock task.now place.old (replicate 8 true) 0 size }
+    requires numbers { (from ≤ to) × (to ≤ size) }
+    ensures { result ≡ block_count task.now 0 place.old.frame from to }
+{
+    if task.threads > 2 && to - from >= MANY_FRAMES {
+        return count_remembering(task, place, size, from, to);
+    }
+    let alive = [true; MOST_CONJUNCTIONS];
+    place.count(task, &mut [], alive, 0, size, from, to)
 }
 
 /// At how many of the frames with the numbers from `from` up to and without `to` the conditions hold.
@@ -58,10 +86,9 @@ fn piece(
     ensures { result ≡ count_by (number_holds conds.now logs.now.logs n) (range_with_len from (to - from)) }
 {
     let task = Task::new(conds, logs, known, n);
-    let room = logs.len() > 2 && to - from >= MANY_FRAMES;
-    let mut place = Place::new(&task, *first, room);
+    let mut place = Place::new(&task, *first);
     let size = power(n, logs.len());
-    place.count(&task, [true; MOST_CONJUNCTIONS], 0, size, from, to)
+    count_in(&task, &mut place, size, from, to)
 }
 
 /// At how many frames of piece `j` of the cut the conditions hold.

@@ -1,9 +1,10 @@
 //! How far the conditions of a row reach: what does not depend on the last thread's iteration is tested here, once a
 //! row.
 ghost use Rattle.std.specs.Prelude.{◌≡◌, ℕ, ◌-◌, ◌<◌, ◌≤◌, ◌==◌, ◌&&◌, ◌||◌, All, false, length, not, slice_index_or, true};
+ghost use Rattle.std.specs.List.{list_all};
 ghost use Rattle.frame_count.specs.Count.{IsFrameOf, IsGood, IsOfLogs};
 ghost use Rattle.frame_count.specs.Row.{IsToldBy, Leaves, holds_along, holds_with, is_within, left_along};
-ghost use Rattle.frame_count.specs.Rows.{LeaveEach};
+ghost use Rattle.frame_count.specs.Rows.{LeaveEach, OthersFail};
 ghost use Rattle.frame_count.specs.declared.stretch.Stretch.{Stretch};
 
 use crate::at_frame::logged;
@@ -84,21 +85,38 @@ fn reach(conds: &[Cond], logs: &Logs, frame: &Frame, n: usize) -> Stretch
     stretch
 }
 
-/// The stretch of each conjunction.
+/// The stretch of a conjunction: the other threads may have ruled it out.
+fn hold_in(left: bool, conds: &[Cond], logs: &Logs, frame: &Frame, n: usize) -> Stretch
+    requires frame { (all : ℕ) × (n ≤ all) × IsFrameOf logs.now.logs all frame.now
+        × All (IsGood logs.now.logs) conds.now }
+    requires fails { left ≡ false → (m : ℕ) → m < n
+        → list_all (holds_along logs.now.logs frame.now m) conds.now ≡ false }
+    ensures { Leaves n logs.now.logs frame.now conds.now result }
+{
+    if left {
+        reach(conds, logs, frame, n)
+    } else {
+        Stretch::all_or_none(false, n)
+    }
+}
+
+/// The stretch of each conjunction, of which these are left.
 pub(crate) fn reaches(
     conds: &Conds,
     logs: &Logs,
     frame: &Frame,
+    left: &[bool; MOST_CONJUNCTIONS],
     n: usize,
 ) -> [Stretch; MOST_CONJUNCTIONS]
     requires frame { (all : ℕ) × (n ≤ all) × IsFrameOf logs.now.logs all frame.now }
     requires names { All (IsOfLogs logs.now.logs) conds.now.conds }
+    requires others { OthersFail conds.now logs.now.logs n frame.now left.now }
     ensures each { length conds.now.ends ≤ length result }
     ensures leave { LeaveEach conds.now logs.now.logs n result frame.now }
 {
     let mut stretches = [Stretch::all_or_none(false, n); MOST_CONJUNCTIONS];
     for c in 0..conds.conjunctions() {
-        stretches[c] = reach(conds.group(c), logs, frame, n);
+        stretches[c] = hold_in(left[c], conds.group(c), logs, frame, n);
     }
     stretches
 }

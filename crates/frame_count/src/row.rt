@@ -17,7 +17,7 @@ use crate::reach::{hull, reaches};
 use crate::stretch::Stretch;
 use load_log::Logs;
 use outcome_conv::{Cond, Conds};
-use perp_base::Frame;
+use perp_base::{Frame, MOST_CONJUNCTIONS};
 
 /// At which of sixty-four iterations a condition holds whose reader is the last thread.
 #[inline(always)]
@@ -224,7 +224,7 @@ pub fn row_count(conds: &Conds, logs: &Logs, frame: &Frame, from: u32, to: u32) 
     ensures { result ≡ count_by (λ m. conds_hold (value_at logs.now.logs) conds.now.ends conds.now.conds
         (with_last frame.now m)) (range_with_len from (to - from)) }
 {
-    let stretches = &reaches(conds, logs, frame, to as usize);
+    let stretches = &reaches(conds, logs, frame, &[true; MOST_CONJUNCTIONS], to as usize);
     let row = Row {
         conds,
         logs,

@@ -1,5 +1,6 @@
 use Rattle.std.proofs.Common.{ap, ◌∙◌, arith}
 use Rattle.tso_machine.specs.Frame.{frame_of}
+use Rattle.frame_count.proofs.BlockCounts.{none_fail}
 use Rattle.frame_count.proofs.Cuts.{frame_is}
 use Rattle.frame_count.proofs.pieces.first_row.Goals as goal
 
@@ -17,6 +18,7 @@ next-requires c =
       );
       few = c.requires.iterations.1;
       names = c.requires.names;
+      others = none_fail c.args.conds.now logs n c.frame_of-frame.result;
       known = c.requires.known;
       counts = c.nothing-counted.ensures c.args.conds.now c.args.logs.now.logs;
     }

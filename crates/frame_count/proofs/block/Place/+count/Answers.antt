@@ -41,6 +41,7 @@ loop-at-init t c =
       within = c.requires.numbers.0;
       here = λ _. (omega arith, mod_below c.args.from step some);
       kept = b.kept;
+      remembered = c.requires.blocks;
       front = refl;
       counted =
           counted_none (block_holds task.conds.now task.logs.now.logs task.n c.args.p c.args.self.now.frame) c.args.from;
@@ -81,13 +82,13 @@ count-hits-requires t c =
         (
           inner_block c.args.task.now c.loop-at.self c.set.new.self c.left-now.result c.args.p c.args.size c.loop-at.i
               c.requires.task c.loop-at.invariant.kept c.set.ensures digit more other b.size_is c.left-now.ensures,
-          (omega arith, omega arith),
+          (c.loop-at.invariant.remembered, (omega arith, omega arith)),
         ),
       ),
     )
 
 -- the hits of all blocks that count alike
-all_hits : (t : ℕ) (c : goal.After-count-hits t) → c.how_many_alike-times.result * c.count-hits.result
+all_hits : (t : ℕ) (c : goal.After-blocks-in-loop-at-1 t) → c.how_many_alike-times.result * c.count-hits.result
     ≡ count_by (block_holds c.args.task.now.conds.now c.args.task.now.logs.now.logs c.args.task.now.n c.args.p
     c.args.self.now.frame) (range_with_len c.loop-at.at (c.how_many_alike-times.result * c.min-some.result))
 all_hits t c =
@@ -119,7 +120,7 @@ all_hits t c =
     ∙ ap (λ f. block_count task (c.args.p + 1) f c.loop-at.start (c.loop-at.start + c.min-some.result)) set)
 
 -- they are within the numbers that are left
-fits : (t : ℕ) (c : goal.After-count-hits t) → c.how_many_alike-times.result * c.min-some.result
+fits : (t : ℕ) (c : goal.After-blocks-in-loop-at-1 t) → c.how_many_alike-times.result * c.min-some.result
     ≤ c.args.to - c.loop-at.at
 fits t c =
     times_fit c.how_many_alike-times.result c.min-some.result (c.args.size / c.args.task.now.n) c.loop-at.start
@@ -205,6 +206,7 @@ loop-at-preserved t c =
         some,
       );
       kept = c.count-hits.ensures.place;
+      remembered = c.count-hits.ensures.blocks;
       front =
           front_less c.args.p c.count-hits.new.self.frame c.set.new.self c.count-hits.ensures.front
           ∙ ap (take c.args.p) c.set.ensures

@@ -1,5 +1,5 @@
-use Rattle.std.proofs.Common.{◌≡◌, ◌+◌, ◌-◌, ◌*◌, ◌<◌, ◌≤◌, take}
-use Rattle.frame_count.specs.Block.{IsPlace, block_holds}
+use Rattle.std.proofs.Common.{◌≡◌, ◌+◌, ◌-◌, ◌*◌, ◌<◌, ◌≤◌, All, take}
+use Rattle.frame_count.specs.Block.{IsPlace, IsRemembered, block_holds}
 use Rattle.frame_count.proofs.Counts.{IsCountedTo}
 use Rattle.frame_count.proofs.block.Place.+count.Given as goal
 
@@ -8,6 +8,7 @@ invariant-loop-at l = record {
   within : l.at ≤ l.to;
   here : l.at < l.to → (l.i * l.step + l.start ≡ l.at) × (l.start < l.step);
   kept : IsPlace l.task l.self;
+  remembered : All (IsRemembered l.task.conds.now l.task.logs.now.logs l.task.n) l.blocks;
   front : take l.p l.self.frame ≡ take l.p l.fn.self.frame;
   counted : IsCountedTo (block_holds l.task.conds.now l.task.logs.now.logs l.task.n l.p l.fn.self.frame) l.from l.at
       l.total;

@@ -10,5 +10,4 @@ returns c =
           first_frame task.logs.now.logs task.n c.filled.result c.requires.some c.requires.threads.0 c.requires.whole
           (c.filled.ensures ∙ ap (λ k. replicate k 0) c.len.ensures);
       row = c.requires.row;
-      blocks = λ blocks e. c.no_blocks.ensures task.conds.now task.logs.now.logs task.n blocks e;
     }
