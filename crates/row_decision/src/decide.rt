@@ -65,7 +65,9 @@ fn is_any_earlier(reader: Node, stores: &[Site]) -> bool
 fn is_any_between(reader: Node, place: u32, stores: &[Site]) -> bool
     ensures { result ≡ list_any (is_own_between reader.thread place reader.place) stores.now }
 {
-    stores.iter().any(|store| is_own_between(reader, place, *store))
+    stores
+        .iter()
+        .any(|store| is_own_between(reader, place, *store))
 }
 
 /// Whether the store at a place of the reader's thread is hidden from it by one of these stores, or does not stand
@@ -83,8 +85,8 @@ fn is_hidden_by(reading: Reading, stores: &[Site]) -> bool
 {
     match reading.source {
         None => is_any_earlier(reading.reader, stores),
-        Some(s) =>
-            s.thread == reading.reader.thread && is_hidden_store(reading.reader, s.place, stores),
+        Some(s) => s.thread == reading.reader.thread
+            && is_hidden_store(reading.reader, s.place, stores),
     }
 }
 

@@ -41,7 +41,8 @@ fn asks_source(test: &Test, r: Reading, s: Node, a: Node, b: Node) -> bool
     ensures { result ≡ asks_by test.now (seen r) (Some s) a b }
 {
     s.thread != r.reader.thread
-        && (is_same(s, a) && is_same(r.reader, b) || is_own_before(test, r, a) && is_same(s, b)
+        && (is_same(s, a) && is_same(r.reader, b)
+            || is_own_before(test, r, a) && is_same(s, b)
             || is_same(r.reader, a) && is_later(test, r, s, b))
 }
 
@@ -50,9 +51,8 @@ fn asks(test: &Test, r: Reading, a: Node, b: Node) -> bool
     ensures { result ≡ asks_of test.now a b (seen r) }
 {
     match r.source {
-        None =>
-            is_same(r.reader, a)
-                && (writes_to(test, r.location, b) && b.thread != r.reader.thread),
+        None => is_same(r.reader, a)
+            && (writes_to(test, r.location, b) && b.thread != r.reader.thread),
         Some(s) => asks_source(test, r, s, a, b),
     }
 }
@@ -75,6 +75,7 @@ fn is_asked(test: &Test, readings: &[Reading], a: Node, b: Node) -> bool
 pub fn has_edge(test: &Test, readings: &[Reading], a: Node, b: Node) -> bool
     ensures { result ≡ edge_among test.now (map seen readings.now) [] a b }
 {
-    is_node(test, a) && is_node(test, b)
+    is_node(test, a)
+        && is_node(test, b)
         && (keeps_order(test, a, b) || is_asked(test, readings, a, b))
 }

@@ -11,7 +11,6 @@ ghost use Rattle.row_decision.specs.Seen.{seen};
 ghost use Rattle.row_decision.specs.declared.front.Front.TheVariants.{Impossible};
 ghost use Rattle.row_decision.specs.Fronts.{IsFront, IsFrontFrom, IsAnswerTo, initial_source, register_seen, sources_with};
 
-
 use crate::decide::{Answer, decide_readings};
 use crate::kept::action;
 use crate::reading::Reading;
@@ -210,7 +209,16 @@ fn decide_from(
             source,
         })?;
         let later = &registers[1..];
-        let front = decide_from(alloc, test, sequences, later, &values[1..], &more, most, steps)?;
+        let front = decide_from(
+            alloc,
+            test,
+            sequences,
+            later,
+            &values[1..],
+            &more,
+            most,
+            steps,
+        )?;
         if !is_impossible(front) {
             return Ok(front);
         }
@@ -235,7 +243,9 @@ pub fn decide_front(
     let _threads = test.threads();
     let mut steps = 0;
     let none = Vec::new(alloc);
-    let front = decide_from(alloc, test, sequences, registers, values, &none, most, &mut steps)?;
+    let front = decide_from(
+        alloc, test, sequences, registers, values, &none, most, &mut steps,
+    )?;
     Ok(FrontAnswer { front, steps })
 }
 
