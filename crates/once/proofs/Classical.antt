@@ -116,12 +116,12 @@ asked_source test r t w p a b at h =
     let first = source_is t w p a k.0 in
     let is : s ≡ a = ap node first.1 in
     let P : Node → Type 0 = λ z. same_node s z ≡ true in
-    let A1 = same_node s a && same_node r.reader b in
-    let A2 = is_own_before test r a && same_node s b in
-    let A3 = same_node r.reader a && is_later test r s b in
-    and_from (not (w == r.reader.thread)) ((A1 || A2) || A3)
+    let after_source = same_node s a && same_node r.reader b in
+    let own_before = is_own_before test r a && same_node s b in
+    let before_later = same_node r.reader a && is_later test r s b in
+    and_from (not (w == r.reader.thread)) ((after_source || own_before) || before_later)
     (not_from_false (w == r.reader.thread) (ne_eqb w r.reader.thread (λ e. first.0 (e ∙ sym at))))
-    (or_left (A1 || A2) A3 (or_left A1 A2
+    (or_left (after_source || own_before) before_later (or_left after_source own_before
     (and_from (same_node s a) (same_node r.reader b) (subst P is (same_node_self s)) k.1)))
 
 pub stores_at_site : (test : LitmusTest) (x : ℕ) (s : Site) → Among s (stores_of test x) → StoresAt test x (node s)
@@ -183,12 +183,12 @@ asked_once test a b (Exact t column w p) tells h =
         let late : p < f.store.place = follows_later test x w s f.store tells.other.one_thread tells.stands at in
         let here : f.store.place ≡ b.place = ap (λ (z : Site). z.place) f.is in
         let own : b.thread ≡ w = sym (ap (λ (z : Site). z.thread) f.is) ∙ o.own in
-        let A1 = same_node n a && same_node r.reader b in
-        let A2 = is_own_before test r a && same_node n b in
-        let A3 = same_node r.reader a && is_later test r n b in
-        and_from (not (w == r.reader.thread)) ((A1 || A2) || A3)
+        let after_source = same_node n a && same_node r.reader b in
+        let own_before = is_own_before test r a && same_node n b in
+        let before_later = same_node r.reader a && is_later test r n b in
+        and_from (not (w == r.reader.thread)) ((after_source || own_before) || before_later)
         (not_from_false (w == r.reader.thread) (ne_eqb w r.reader.thread (λ e. tells.other.apart (sym e))))
-        (or_right (A1 || A2) A3 (and_from (same_node r.reader a) (is_later test r n b) k.0
+        (or_right (after_source || own_before) before_later (and_from (same_node r.reader a) (is_later test r n b) k.0
         (and_from (writes_to test r.location b && (b.thread == w)) (nat_lt p b.place)
         (and_from (writes_to test r.location b) (b.thread == w) (writes_from test r.location b stores)
         (eq-eqb b.thread w own)) (lt-ltb p b.place (omega arith)))))

@@ -155,42 +155,42 @@ from_store test edge order r s k =
 
     leads : (s.thread ≡ r.reader.thread → ⊥) → edge s r.reader ≡ true
     leads ne =
-        let A1 = same_node s s && same_node r.reader r.reader in
-        let A2 = is_own_before test r s && same_node s r.reader in
-        let A3 = same_node r.reader s && is_later test r s r.reader in
+        let after_source = same_node s s && same_node r.reader r.reader in
+        let own_before = is_own_before test r s && same_node s r.reader in
+        let before_later = same_node r.reader s && is_later test r s r.reader in
         k.asked s r.reader source_node reader_node
-        (and_from (not (s.thread == r.reader.thread)) ((A1 || A2) || A3) (foreign ne)
-        (or_left (A1 || A2) A3 (or_left A1 A2
+        (and_from (not (s.thread == r.reader.thread)) ((after_source || own_before) || before_later) (foreign ne)
+        (or_left (after_source || own_before) before_later (or_left after_source own_before
         (and_from (same_node s s) (same_node r.reader r.reader) (same_node_self s) (same_node_self r.reader)))))
 
     behind : (s.thread ≡ r.reader.thread → ⊥) → (o : Node) → StoresAt test r.location o → o.thread ≡ r.reader.thread
         → o.place < r.reader.place → edge o s ≡ true
     behind ne o w e l =
-        let A1 = same_node s o && same_node r.reader s in
-        let A2 = is_own_before test r o && same_node s s in
-        let A3 = same_node r.reader o && is_later test r s s in
+        let after_source = same_node s o && same_node r.reader s in
+        let own_before = is_own_before test r o && same_node s s in
+        let before_later = same_node r.reader o && is_later test r s s in
         let before : is_own_before test r o ≡ true = and_from (writes_to test r.location o
         && (o.thread == r.reader.thread)) (nat_lt o.place r.reader.place)
         (and_from (writes_to test r.location o) (o.thread == r.reader.thread) (writes_from test r.location o w)
         (eq-eqb o.thread r.reader.thread e)) (lt-ltb o.place r.reader.place l) in
         k.asked o s (stores_node test r.location o w) source_node
-        (and_from (not (s.thread == r.reader.thread)) ((A1 || A2) || A3) (foreign ne)
-        (or_left (A1 || A2) A3 (or_right A1 A2
+        (and_from (not (s.thread == r.reader.thread)) ((after_source || own_before) || before_later) (foreign ne)
+        (or_left (after_source || own_before) before_later (or_right after_source own_before
         (and_from (is_own_before test r o) (same_node s s) before (same_node_self s)))))
 
     ahead : (s.thread ≡ r.reader.thread → ⊥) → (o : Node) → StoresAt test r.location o → o.thread ≡ s.thread
         → s.place < o.place → edge r.reader o ≡ true
     ahead ne o w e l =
-        let A1 = same_node s r.reader && same_node r.reader o in
-        let A2 = is_own_before test r r.reader && same_node s o in
-        let A3 = same_node r.reader r.reader && is_later test r s o in
+        let after_source = same_node s r.reader && same_node r.reader o in
+        let own_before = is_own_before test r r.reader && same_node s o in
+        let before_later = same_node r.reader r.reader && is_later test r s o in
         let later : is_later test r s o ≡ true = and_from (writes_to test r.location o && (o.thread == s.thread))
         (nat_lt s.place o.place)
         (and_from (writes_to test r.location o) (o.thread == s.thread) (writes_from test r.location o w)
         (eq-eqb o.thread s.thread e)) (lt-ltb s.place o.place l) in
         k.asked r.reader o reader_node (stores_node test r.location o w)
-        (and_from (not (s.thread == r.reader.thread)) ((A1 || A2) || A3) (foreign ne)
-        (or_right (A1 || A2) A3
+        (and_from (not (s.thread == r.reader.thread)) ((after_source || own_before) || before_later) (foreign ne)
+        (or_right (after_source || own_before) before_later
         (and_from (same_node r.reader r.reader) (is_later test r s o) (same_node_self r.reader) later)))
 
     -- two stores of one thread

@@ -109,11 +109,11 @@ asks_leads : (test : LitmusTest) (n : ℕ) (run : List Event) (frame : List ℕ)
     → IsRunOf test n run → IsFrame test n frame → ReadsAt test n run frame r s
     → asks_by test r (Some s) a b ≡ true → Leads run frame a b
 asks_leads test n run frame r s a b is f k h =
-    let A1 = same_node s a && same_node r.reader b in
-    let A2 = is_own_before test r a && same_node s b in
-    let A3 = same_node r.reader a && is_later test r s b in
-    let p = and_parts (not (s.thread == r.reader.thread)) ((A1 || A2) || A3) h in
-    go (not_same s.thread r.reader.thread p.0) (or_cases (A1 || A2) A3 p.1)
+    let after_source = same_node s a && same_node r.reader b in
+    let own_before = is_own_before test r a && same_node s b in
+    let before_later = same_node r.reader a && is_later test r s b in
+    let p = and_parts (not (s.thread == r.reader.thread)) ((after_source || own_before) || before_later) h in
+    go (not_same s.thread r.reader.thread p.0) (or_cases (after_source || own_before) before_later p.1)
   where
     first : (s.thread ≡ r.reader.thread → ⊥) → (same_node s a && same_node r.reader b) ≡ true → Leads run frame a b
     first ne h =

@@ -491,9 +491,9 @@ store_draws test n before e after v o r h source s = (
             let a = subst P h.origin early in
             let b : IsEarlier e.iteration e.place f.event.iteration f.event.place =
             (let R : ℕ → ℕ → Type 0 = λ i j. IsEarlier e.iteration e.place i j in
-            let R1 : ℕ → Type 0 = λ i. R i o.place in
-            let R2 : ℕ → Type 0 = λ j. R f.event.iteration j in
-            subst R2 (sym f.place) (subst R1 (sym f.iteration) a)) in
+            let AtPlace : ℕ → Type 0 = λ i. R i o.place in
+            let AtIteration : ℕ → Type 0 = λ j. R f.event.iteration j in
+            subst AtIteration (sym f.place) (subst AtPlace (sym f.iteration) a)) in
             let g = deed_order test n f.among.front f.event (f.among.rest ++ e ∷ after) e.thread e.place e.iteration
             h.at.action (run_cut test n before (e ∷ after) f.event f.among r)
             (thread_below test e.thread e.place h.at.action h.at.stands) (f.thread ∙ t) f.is b h.at.stands h.at.early in
@@ -564,9 +564,9 @@ store_draws test n before e after v o r h source s = (
                 let f = k.among in
                 let mine : k.event.thread ≡ o.thread = k.thread ∙ q ∙ sym t in
                 let R : ℕ → ℕ → Type 0 = λ i j. IsEarlier o.iteration o.place i j in
-                let R1 : ℕ → Type 0 = λ i. R i w.slot.place in
-                let R2 : ℕ → Type 0 = λ j. R k.event.iteration j in
-                let a = subst R2 (sym k.place) (subst R1 (sym k.iteration) early) in
+                let AtPlace : ℕ → Type 0 = λ i. R i w.slot.place in
+                let AtIteration : ℕ → Type 0 = λ j. R k.event.iteration j in
+                let a = subst AtIteration (sym k.place) (subst AtPlace (sym k.iteration) early) in
                 let below = thread_below test o.thread o.place s.action s.stands in
                 let d = deed_order test n f.front k.event (f.rest ++ e ∷ after) o.thread o.place o.iteration s.action
                 (run_cut test n before (e ∷ after) k.event f r) below mine k.deed a s.stands s.early in

@@ -289,10 +289,10 @@ kind_reaches : (test : LitmusTest) (kinds : List AtomKind) (kind : AtomKind) (a 
 kind_reaches test kinds (Rf t column w p) a b am tells o na nb h =
     let r = reading_of test (Rf t column w p) in
     let s : Node = record { thread = w; place = p } in
-    let A1 = same_node s a && same_node r.reader b in
-    let A2 = is_own_before test r a && same_node s b in
-    let A3 = same_node r.reader a && is_later test r s b in
-    let k = and_parts (not (w == r.reader.thread)) ((A1 || A2) || A3) h in
+    let after_source = same_node s a && same_node r.reader b in
+    let own_before = is_own_before test r a && same_node s b in
+    let before_later = same_node r.reader a && is_later test r s b in
+    let k = and_parts (not (w == r.reader.thread)) ((after_source || own_before) || before_later) h in
     let n = own_newest test t p (reading_site test t column).place (location_read test t column) o in
     let loc : named_by tells.action ≡ location_read test t column = sym (location_is test t column tells.place
     tells.action tells.reader) in
