@@ -18,7 +18,8 @@ with_append c (Some s) xs ys = refl
 
 taken_suc : (choices : List Choice) (sides : List (Option Side)) (i : ℕ) (c : Choice) (s : Option Side)
     → slice_get choices i ≡ Some c → slice_get sides i ≡ Some s
-    → taken_of (take (suc i) choices) (take (suc i) sides) ≡ taken_of (take i choices) (take i sides) ++ with_side c s []
+    → taken_of (take (suc i) choices) (take (suc i) sides) ≡ taken_of (take i choices) (take i sides)
+    ++ with_side c s []
 taken_suc [] sides i c s h k = cc
 taken_suc (d ∷ choices) [] i c s h k = cc
 taken_suc (d ∷ choices) (t ∷ sides) zero c s h k =

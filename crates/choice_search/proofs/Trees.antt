@@ -176,7 +176,8 @@ both_refute edges choices p q taken us vs rest more all l r fu fv fj hl wl hr wr
       refutes_more edges choices vs (q ∷ all) r (within_trans vs (q ∷ more) (q ∷ all) (without_keeps q vs more fv)
       (within_push q more all (joined_right rest more all fj))) hr;
   within =
-      joined_within rest more all taken fj (without_within p us rest taken fu wl) (without_within q vs more taken fv wr);
+      joined_within rest more all taken fj (without_within p us rest taken fu wl)
+      (without_within q vs more taken fv wr);
 }
 
 -- ---- what is found
@@ -189,7 +190,8 @@ found_more edges choices used taken (Refuted r) f h =
 found_more edges choices used taken GaveUp f h = tt
 
 pub kept_back : (sides new : List (Option Side)) (i : ℕ) (side : Option Side) (found : Found)
-    → slice_get sides i ≡ Some None → IsKept (slice_set sides i side) new found → IsKept sides (slice_set new i None) found
+    → slice_get sides i ≡ Some None → IsKept (slice_set sides i side) new found
+    → IsKept sides (slice_set new i None) found
 kept_back sides new i side (Sides ps) h k = tt
 kept_back sides new i side (Refuted r) h k = ap (λ l. slice_set l i None) k ∙ set_back sides i side h
 kept_back sides new i side GaveUp h k = tt

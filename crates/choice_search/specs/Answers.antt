@@ -1,4 +1,4 @@
--- What an answer says of the edges and the choices.
+-- What an answer says of the edges and the choices. This project's own.
 use Rattle.std.specs.Prelude.{◌≡◌, ℕ, ◌≤◌, List, []}
 use Rattle.std.specs.List.{AllZip}
 use Rattle.choice_search.specs.declared.graph.Pair.{Pair}

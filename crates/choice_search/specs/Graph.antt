@@ -1,4 +1,5 @@
--- Edges between numbered nodes, choices of two edges, and cycles.
+-- Edges between numbered nodes, choices of two edges, and cycles. Edges and cycles are those of directed graphs; the
+-- choices are this project's own.
 use Rattle.std.specs.Prelude.{◌≡◌, ℕ, ◌==◌, ◌&&◌, ◌||◌, ◌⊎◌, Bool, false, List, [], ◌∷◌}
 use Rattle.std.specs.List.{list_any}
 use Rattle.choice_search.specs.declared.graph.Pair.{Pair}

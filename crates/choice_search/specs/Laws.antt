@@ -1,4 +1,4 @@
--- Laws: a tree or sides, and not both.
+-- Law: a tree or sides, and not both. This project's own.
 use Rattle.std.specs.Prelude.{List, []}
 use Rattle.std.specs.List.{AllZip}
 use Rattle.choice_search.specs.declared.graph.Pair.{Pair}

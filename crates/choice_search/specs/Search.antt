@@ -1,5 +1,5 @@
 -- The search: the sides that are taken so far, what a refutation uses of them, and the nodes that are left when those
--- with no edge to one that is left are left out.
+-- with no edge to one that is left are left out. This project's own.
 use Rattle.std.specs.Prelude.{◌≡◌, ℕ, ◌≤◌, ◌==◌, ◌&&◌, ◌||◌, Bool, true, false, Option, None, Some, List, [], ◌∷◌, All, slice_get}
 use Rattle.std.specs.List.{AllZip, list_any}
 use Rattle.choice_search.specs.declared.graph.Pair.{Pair}

@@ -1,4 +1,4 @@
--- A tree of cases that refutes all sides of some choices.
+-- A tree of cases that refutes all sides of some choices. This project's own.
 use Rattle.std.specs.Prelude.{◌≡◌, true, List, ◌∷◌, Contains}
 use Rattle.choice_search.specs.declared.graph.Pair.{Pair}
 use Rattle.choice_search.specs.declared.graph.Choice.{Choice}

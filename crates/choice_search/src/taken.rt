@@ -67,7 +67,8 @@ fn steps_of(alloc: Global, edges: &[Pair], cycle: &[u32]) -> Result<Vec<Pair>, N
 /// Whether each edge is that of a side that is taken, or this one.
 fn are_taken(choices: &[Choice], sides: &[Option<Side>], edge: Pair, used: &[Pair]) -> bool
     requires { length sides.now ≡ length choices.now }
-    ensures { result ≡ list_all (λ p. is_pair p.first p.second edge || has_pair (taken_of choices.now sides.now) p.first p.second) used.now }
+    ensures { result ≡ list_all (λ p. is_pair p.first p.second edge
+        || has_pair (taken_of choices.now sides.now) p.first p.second) used.now }
 {
     used.iter().all(|p| edge.is(p.first, p.second) || is_taken(choices, sides, p.first, p.second))
 }

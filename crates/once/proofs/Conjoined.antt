@@ -157,7 +157,8 @@ pub shown_or_cycle : (checked : CheckedTest) (c : ℕ) (taken : List Pair) → I
     → ((choice : Choice) → Among choice (choices_in checked c) → IsTaken taken choice)
     → Closed (edge_once checked c taken) ⊎ ((run : List Event) × Shows checked c run)
 shown_or_cycle checked c taken h hides sides =
-    go (run_or_cycle checked.test (readings_in checked c) taken (readings_are checked c h) (hides_none checked c h hides)
+    go (run_or_cycle checked.test (readings_in checked c) taken (readings_are checked c h)
+        (hides_none checked c h hides)
     sides)
   where
     go : Closed (edge_once checked c taken) ⊎ Made checked.test (readings_in checked c)

@@ -98,7 +98,8 @@ order_among test readings taken t p q a b l at bt x y k =
 -- Sources.
 
 pub stores_node : (test : LitmusTest) (x : ℕ) (n : Node) → StoresAt test x n → is_node test (site n) ≡ true
-stores_node test x n s = node_from test (site n) s.action s.stands (storing_access s.action (store_stores x s.action s.stores))
+stores_node test x n s = node_from test (site n) s.action s.stands
+    (storing_access s.action (store_stores x s.action s.stores))
 
 pub writes_from : (test : LitmusTest) (x : ℕ) (n : Node) → StoresAt test x n → writes_to test x n ≡ true
 writes_from test x n s = ap (λ o. option_map_or (is_store_to x) o false) s.stands ∙ s.stores
@@ -309,7 +310,8 @@ third_by test readings taken r s sides nr ns o w ne nt = go (sides c among)
     among : Among (choice_of r.reader s (site o)) (choices_by test r (Some s))
     among = among_map (choice_of r.reader s) (site o) (filter (is_third r.reader s) (stores_of test r.location))
         (each_among (λ y. is_third r.reader s y ≡ true
-        → Among y (filter (is_third r.reader s) (stores_of test r.location))) (site o) (stores_of test r.location) stands
+        → Among y (filter (is_third r.reader s) (stores_of test r.location))) (site o)
+            (stores_of test r.location) stands
         (among_kept (is_third r.reader s) (stores_of test r.location)) is)
 
     go : IsTaken taken (choice_of r.reader s (site o))

@@ -64,7 +64,8 @@ trees_are_needed_lem = (
   record {
     one_each = refl;
     below =
-        All-from_recursion (λ i. i < 2) (0 ∷ 0 ∷ 0 ∷ 0 ∷ []) (omega arith, (omega arith, (omega arith, (omega arith, tt))));
+        All-from_recursion (λ i. i < 2) (0 ∷ 0 ∷ 0 ∷ 0 ∷ [])
+            (omega arith, (omega arith, (omega arith, (omega arith, tt))));
   },
   twice_holds,
 )

@@ -79,7 +79,8 @@ exactly_tells s m (Some o) h =
     (λ i. Some (record { thread = t i; place = l i; iteration = k i }))
 
 -- the run at an atom's read and source
-pub record ReadsAt (test : LitmusTest) (n : ℕ) (run : List Event) (frame : List ℕ) (r : Reading) (s : Node) : Type 0 where
+pub record ReadsAt (test : LitmusTest) (n : ℕ) (run : List Event) (frame : List ℕ) (r : Reading)
+    (s : Node) : Type 0 where
   pub loc : site_location test (site r.reader) ≡ r.location
   pub stores : StoresAt test r.location s
   pub cut : CutAt test n frame r.reader run (Some (in_iteration (site s) (iteration_in frame s.thread)))
@@ -118,7 +119,8 @@ asks_leads test n run frame r s a b is f k h =
     first : (s.thread ≡ r.reader.thread → ⊥) → (same_node s a && same_node r.reader b) ≡ true → Leads run frame a b
     first ne h =
         let p = and_parts (same_node s a) (same_node r.reader b) h in
-        let l = each_leads test n run frame r s s r.reader k (source_leads test n frame r.reader s k.cut.before k.cut.event
+        let l = each_leads test n run frame r s s r.reader k
+            (source_leads test n frame r.reader s k.cut.before k.cut.event
         k.cut.after k.cut.at r.location k.loc k.cut.taken ne) in
         let P : Node → Type 0 = λ z. Leads run frame z r.reader in
         let Q : Node → Type 0 = λ z. Leads run frame a z in
@@ -136,7 +138,8 @@ asks_leads test n run frame r s a b is f k h =
         let Q : Node → Type 0 = λ z. Leads run frame a z in
         subst Q (same_node_tells s b p.1) l
 
-    third : (s.thread ≡ r.reader.thread → ⊥) → (same_node r.reader a && is_later test r s b) ≡ true → Leads run frame a b
+    third : (s.thread ≡ r.reader.thread → ⊥) → (same_node r.reader a && is_later test r s b) ≡ true
+        → Leads run frame a b
     third ne h =
         let p = and_parts (same_node r.reader a) (is_later test r s b) h in
         let u = and_parts (writes_to test r.location b && (b.thread == s.thread)) (nat_lt s.place b.place) p.1 in
@@ -330,7 +333,8 @@ fr_leads test n run frame t column w r f tells holds o v =
             subst P is leads
         go (inr ne) =
             let a = leads in
-            let b = stores_in_order test n run frame (named_by tells.action) (node tells.other.first) o r f head_stores q
+            let b = stores_in_order test n run frame (named_by tells.action)
+                (node tells.other.first) o r f head_stores q
             thread (omega arith) in
             omega arith
 

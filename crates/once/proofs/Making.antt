@@ -61,14 +61,16 @@ order_between test edge kept = record {
       kept t p q a.action b.action k (slot_action test t p a at) (slot_action test t q b bt)
       (storing_access a.action v) acc
       (keeps_storing (is_barred (body_of test t) p q) a.action b.action v
-      (inr (any_between is_barrier (body_of test t) (p + 1) q i c.action (slot_action test t i c ct) w (omega arith) m)));
+      (inr (any_between is_barrier (body_of test t) (p + 1) q i c.action (slot_action test t i c ct) w
+          (omega arith) m)));
 }
 
 stores_to : (test : LitmusTest) (x : ℕ) (a : Spot) → orders.StoresAt test 1 x a → StoresAt test x (at_node a)
 stores_to test x a w = record { action = w.slot.action; stands = action_in test a w.slot w.stands; stores = w.stores }
 
 rank_is : (test : LitmusTest) (x : ℕ) (n : Node) → value_of test x (site n) 0 ≡ rank_of test x (site n)
-rank_is test x n = ap (λ z. z + rank_of test x (site n)) (mul-zero (store_count test x)) ∙ zero-add (rank_of test x (site n))
+rank_is test x n = ap (λ z. z + rank_of test x (site n)) (mul-zero (store_count test x))
+    ∙ zero-add (rank_of test x (site n))
 
 start_between : (test : LitmusTest) (edge : Node → Node → Bool) (x : ℕ) (r : Node) → FromStart test edge x r
     → orders.FromStart test 1 (between edge) x (spot_at r)

@@ -115,7 +115,8 @@ deed_leads : (test : LitmusTest) (n t p : ℕ) (a b : Slot) (before : List Event
     → Two test n t a b before e after → is_store a.action ≡ false
     → list_any (is_come (origin_at (spot t p) a)) before ≡ true
 deed_leads test n t p a b before e after w h =
-    moment_of_deed test n (record { thread = t; place = a.place }) a.iteration before (e ∷ after) a.action w.run w.first h
+    moment_of_deed test n (record { thread = t; place = a.place }) a.iteration before
+        (e ∷ after) a.action w.run w.first h
     (go (cases_Bool (is_drain e)))
   where
     go : (is_drain e ≡ true) ⊎ (is_drain e ≡ false) → HasDeed t a.place a.iteration before
@@ -139,7 +140,8 @@ barrier_leads : (test : LitmusTest) (n t p : ℕ) (a c b : Slot) (before : List 
     → IsEarlier a.iteration a.place c.iteration c.place → is_store a.action ≡ true → is_store b.action ≡ false
     → is_barrier c.action ≡ true → list_any (is_come (origin_at (spot t p) a)) before ≡ true
 barrier_leads test n t p a c b before e after w u l h k z =
-    let f = deed_order test n before e after t c.place c.iteration c.action u.run u.below u.thread (u.drains ∙ k) u.earlier
+    let f = deed_order test n before e after t c.place c.iteration c.action u.run u.below u.thread
+        (u.drains ∙ k) u.earlier
     u.first u.early in
     let d = f.event in
     let gives = deed_gives test n (before ++ e ∷ after) d t c.place c.action u.run
@@ -207,7 +209,8 @@ keeps_order test n run r = record {
 -- What a read takes.
 
 -- an origin of a spot
-stores_origin : (test : LitmusTest) (n x : ℕ) (b : Spot) → (w : StoresAt test n x b) → Stores test x (origin_at b w.slot)
+stores_origin : (test : LitmusTest) (n x : ℕ) (b : Spot) → (w : StoresAt test n x b)
+    → Stores test x (origin_at b w.slot)
 stores_origin test n x b w = record {
   action = w.slot.action;
   stands = slot_action test n b w.slot w.stands;
@@ -292,7 +295,8 @@ start_draws test n before e after v r h none =
       after = λ b w ne.
           let o = origin_at b w.slot in
           leads_edge test n run (spot_of test e) b h.slot w.slot h.stands w.stands
-          (subst (λ z. Leads run z o) (sym h.origin) (initial_leads test n (origin_of e) o before e after h.at x refl none
+          (subst (λ z. Leads run z o) (sym h.origin)
+              (initial_leads test n (origin_of e) o before e after h.at x refl none
           (stores_origin test n x b w)
           (λ q. ne (one_spot test n b (spot_of test e) w.slot h.slot w.stands h.stands (q ∙ sym h.origin)))));
       other = λ b w q l.
@@ -421,7 +425,8 @@ store_draws test n before e after v o r h source s = (
           to_source b w (come_first test n (origin_of e) o (origin_at b w.slot) before e after h.at
           (event_location test e) refl source stores (stores_origin test n (event_location test e) b w)
           (λ z. ne (sym (ap (λ (y : Origin). y.thread) z) ∙ q))
-          (own_came test n (origin_of e) o (origin_at b w.slot) before e after h.at (event_location test e) refl source ne
+          (own_came test n (origin_of e) o (origin_at b w.slot) before e after h.at
+              (event_location test e) refl source ne
           (stores_origin test n (event_location test e) b w) q (early_of test n b w.slot w.stands)
           (earlier b w q l)));
     }
@@ -435,7 +440,8 @@ store_draws test n before e after v o r h source s = (
       where
         go : Taken test (event_location test e) before e o → HasDeed o.thread o.place o.iteration before
         go (inl b) =
-            let f = last_found (λ c. Among c before) (is_pending test e.thread (event_location test e) before) before b.event
+            let f = last_found (λ c. Among c before)
+                (is_pending test e.thread (event_location test e) before) before b.event
             (among_self before) b.last in
             record {
               event = b.event;

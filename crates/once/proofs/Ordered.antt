@@ -123,7 +123,8 @@ kind_choices test (Exact t column w p) tells h =
     none_third (node (reading_site test t column)) (record { thread = w; place = p }) w
     (stores_of test (location_read test t column)) (inr refl) (subst P loc tells.other.one_thread)
 
-all_choices : (test : LitmusTest) (kinds : List AtomKind) → Each (λ kind. choices_of test (reading_of test kind) ≡ []) kinds
+all_choices : (test : LitmusTest) (kinds : List AtomKind)
+    → Each (λ kind. choices_of test (reading_of test kind) ≡ []) kinds
     → choices_among test (map (reading_of test) kinds) ≡ []
 all_choices test [] h = refl
 all_choices test (kind ∷ kinds) h = (λ i. h.0 i ++ all_choices test kinds h.1 i)
@@ -131,7 +132,8 @@ all_choices test (kind ∷ kinds) h = (λ i. h.0 i ++ all_choices test kinds h.1
 none_hidden : (test : LitmusTest) (kinds : List AtomKind) → Each (λ kind. is_ordered test kind ≡ true) kinds
     → list_any (is_hidden test) kinds ≡ false
 none_hidden test kinds h =
-    any_none (is_hidden test) kinds (each_weaker (λ kind. is_ordered test kind ≡ true) (λ kind. is_hidden test kind ≡ false)
+    any_none (is_hidden test) kinds (each_weaker (λ kind. is_ordered test kind ≡ true)
+        (λ kind. is_hidden test kind ≡ false)
     (λ kind o. kind_hides test kind o) kinds h)
 
 pub ordered_has_no_choice_lem : OrderedHasNoChoice
@@ -309,7 +311,8 @@ kind_reaches test kinds (Fr t column w) a b am tells o na nb h =
     let P : ℕ → Type 0 = λ z. StoresAt test z b in
     let v : StoresAt test x b = subst P loc (writes_tells test r.location b m.0) in
     let first = tells.other.first in
-    let head : Among first (stores_of test x) = record { front = []; rest = tells.other.others; whole = tells.other.stores }
+    let head : Among first (stores_of test x) =
+        record { front = []; rest = tells.other.others; whole = tells.other.stores }
     in
     let u = stores_at_site test x first head in
     let there = store_at x test b.thread b.place v.action v.stands v.stores in
@@ -353,14 +356,16 @@ kind_reaches test kinds (Exact t column w p) a b am tells o na nb h =
     source : (same_node (record { thread = w; place = p }) a && same_node (node (reading_site test t column)) b) ≡ true
         → Reaches test kinds a b
     source k =
-        let q = and_parts (same_node (record { thread = w; place = p }) a) (same_node (node (reading_site test t column)) b)
+        let q = and_parts (same_node (record { thread = w; place = p }) a)
+            (same_node (node (reading_site test t column)) b)
         k in
         let apart : (w == t) ≡ false = ne_eqb w t (λ e. tells.other.apart (sym e)) in
         let is : source_asked t w p ≡ Some (record { thread = w; place = p }) = rw apart refl in (
           [],
           asked_edge test kinds a b (Exact t column w p) na nb am
               (or_left (is_the (source_asked t w p) a && same_node (node (reading_site test t column)) b)
-              (same_node (node (reading_site test t column)) a && is_the (asked_of test (Exact t column w p)).follower b)
+              (same_node (node (reading_site test t column)) a
+                  && is_the (asked_of test (Exact t column w p)).follower b)
               (and_from (is_the (source_asked t w p) a) (same_node (node (reading_site test t column)) b)
               (ap (λ z. is_the z a) is ∙ q.0) q.1)),
         )
@@ -413,13 +418,17 @@ kind_reaches test kinds (Exact t column w p) a b am tells o na nb h =
         && is_later test (reading_of test (Exact t column w p)) (record { thread = w; place = p }) b) ≡ true)
         → Reaches test kinds a b
     go (inl k) =
-        front (or_cases (same_node (record { thread = w; place = p }) a && same_node (node (reading_site test t column)) b)
-        (is_own_before test (reading_of test (Exact t column w p)) a && same_node (record { thread = w; place = p }) b) k)
+        front (or_cases (same_node (record { thread = w; place = p }) a
+            && same_node (node (reading_site test t column)) b)
+        (is_own_before test (reading_of test (Exact t column w p)) a
+            && same_node (record { thread = w; place = p }) b) k)
     go (inr k) = later k
 
 edge_reaches : (test : LitmusTest) (kinds : List AtomKind) (a b : Node) → Each (Tells test) kinds
-    → Each (λ kind. is_ordered test kind ≡ true) kinds → edge_among test (map (reading_of test) kinds) [] a b ≡ true → Reaches test kinds a b
-edge_reaches test kinds a b tells o h = let e = edge_is test (map (reading_of test) kinds) [] a b h in go e.from e.to e.why
+    → Each (λ kind. is_ordered test kind ≡ true) kinds → edge_among test (map (reading_of test) kinds) [] a b ≡ true
+        → Reaches test kinds a b
+edge_reaches test kinds a b tells o h = let e = edge_is test (map (reading_of test) kinds) [] a b h in
+    go e.from e.to e.why
   where
     go : is_node test (site a) ≡ true → is_node test (site b) ≡ true → (is_kept test (site a) (site b) ≡ true)
         ⊎ ((list_any (asks_of test a b) (map (reading_of test) kinds) ≡ true) ⊎ (false ≡ true)) → Reaches test kinds a b

@@ -454,7 +454,8 @@ pub waits_last : (test : LitmusTest) (x : ℕ) (before : List Event) (e : Event)
     → Waiting test x before e o → last_that (is_pending test e.thread x before) before ≡ None → ⊥
 waits_last test x before e o w z =
     let q = last_from (is_pending test e.thread x before) w.among.front w.event w.among.rest w.pending in
-    let no : Some q.last ≡ None = sym q.is ∙ sym (ap (last_that (is_pending test e.thread x before)) w.among.whole) ∙ z in
+    let no : Some q.last ≡ None = sym q.is
+        ∙ sym (ap (last_that (is_pending test e.thread x before)) w.among.whole) ∙ z in
     cc
 
 pub waits_buffer : (test : LitmusTest) (x : ℕ) (before : List Event) (e : Event) (o s : Origin)
@@ -524,7 +525,10 @@ taken_none test e before (Load reg x) (Read v) g r h =
     record { memory = b.1; none = inl b.0 }
 taken_none test e before Fence Fenced g r h = cc
 taken_none test e before (Exchange x v reg) (Exchanged w) g r h =
-    record { memory = none_mapped origin_of (last_that (is_memory_write test (event_location test e)) before) h; none = inr refl }
+    record {
+      memory = none_mapped origin_of (last_that (is_memory_write test (event_location test e)) before) h;
+      none = inr refl;
+    }
 taken_none test e before _ _ g r h = absurd g
 
 initial_at : (test : LitmusTest) (n : ℕ) (r : Origin) (before : List Event) (e : Event) (after : List Event)

@@ -43,7 +43,8 @@ not_self : (xs : List ℕ) → is_before xs xs ≡ true → ⊥
 not_self xs h = not_both xs xs h h
 
 pub rising_are_once_lem : RisingAreOnce
-rising_are_once_lem [] row middle rest h = not_self row (each_right (λ later. is_before row later ≡ true) middle (row ∷ rest) h.0).0
+rising_are_once_lem [] row middle rest h =
+    not_self row (each_right (λ later. is_before row later ≡ true) middle (row ∷ rest) h.0).0
 rising_are_once_lem (x ∷ front) row middle rest h = rising_are_once_lem front row middle rest h.1
 
 abbrev Same : List (List ℕ) → List (List ℕ) → Type 0

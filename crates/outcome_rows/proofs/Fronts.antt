@@ -29,7 +29,8 @@ kept_on test a b h = go ((edge_is test [] [] a b h).why)
     go : (is_kept test (site a) (site b) ≡ true) ⊎ ((false ≡ true) ⊎ (false ≡ true)) → a.place < b.place
     go (inl k) =
         let p = and_parts ((a.thread == b.thread) && nat_lt a.place b.place)
-        (keeps_at (is_barred (body_of test a.thread) a.place b.place) (action_at test (site a)) (action_at test (site b))) k
+        (keeps_at (is_barred (body_of test a.thread) a.place b.place) (action_at test (site a))
+            (action_at test (site b))) k
         in
         ltb-true a.place b.place ((and_parts (a.thread == b.thread) (nat_lt a.place b.place) p.0).1)
     go (inr (inl k)) = cc
@@ -57,7 +58,8 @@ rows_begin_lem test registers register values v row =
 
 -- the value of a source is 0 or that of a store of the location
 stored_value : (test : LitmusTest) (register : Register) (o : Option Node)
-    → is_source_to test (location_of_read test register) o ≡ true → Among (text_value test o) (values_stored test register)
+    → is_source_to test (location_of_read test register) o ≡ true
+    → Among (text_value test o) (values_stored test register)
 stored_value test register None h = record { front = []; rest = _; whole = refl }
 stored_value test register (Some s) h =
     let x = location_of_read test register in
@@ -91,7 +93,8 @@ zip_last R (a ∷ xs) x (b ∷ ys) z =
     let r = zip_last R xs x ys z.1 in (b ∷ r.0, r.1, (λ i. b ∷ r.2 i), r.3)
 
 -- the last value of a row is one that can come
-pub record RowEnds (test : LitmusTest) (registers : List Register) (register : Register) (values : List ℕ) : Type 0 where
+pub record RowEnds (test : LitmusTest) (registers : List Register) (register : Register)
+    (values : List ℕ) : Type 0 where
   pub front : List ℕ
   pub value : ℕ
   pub is : values ≡ front ++ value ∷ []
@@ -107,7 +110,8 @@ value_comes test steps register v x h ends =
     let one : Some (text_value test e.0) ≡ Some v = sym (subst P i.image e.2) ∙ ends in
     let same : text_value test e.0 ≡ v = cc in
     let Q : ℕ → Type 0 = λ z. Contains (values_stored test register) z in
-    subst Q same (contains_from_among (values_stored test register) (text_value test e.0) (stored_value test register e.0
+    subst Q same (contains_from_among (values_stored test register) (text_value test e.0)
+        (stored_value test register e.0
     e.1))
 
 pub row_ends : (test : LitmusTest) (registers : List Register) (register : Register) (values : List ℕ)

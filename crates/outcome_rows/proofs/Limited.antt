@@ -41,7 +41,8 @@ many_rows A limit columns i column fronts l seam kept many test registers rows h
     let at : length (take i columns) ≡ i = length-take-le i columns (omega arith) in
     let short : E (rows_from p (take i columns) ([] ∷ [])) =
     each_weaker (λ (x : List ℕ). length x ≡ 0 + length (take i columns)) (λ (x : List ℕ). length x + 1 ≤ length columns)
-    (λ x k. omega arith) (rows_from p (take i columns) ([] ∷ [])) (rows_long p (take i columns) ([] ∷ []) 0 (refl, tt)) in
+    (λ x k. omega arith) (rows_from p (take i columns) ([] ∷ []))
+        (rows_long p (take i columns) ([] ∷ []) 0 (refl, tt)) in
     let big = many (length columns) p (subst E (sym is) short) by in
     let next : gone_on p column fronts ≡ rows_of test first p = ap (gone_on p column) is
     ∙ sym (rows_more p (take i columns) column ([] ∷ []))
@@ -51,7 +52,8 @@ many_rows A limit columns i column fronts l seam kept many test registers rows h
   where
     told : (row : List ℕ) → IsRow test (take (length row) registers) row
         ⊎ (IsRow test (take (length row) registers) row → ⊥)
-    told row = rows_are_told_lem test (take (length row) registers) row h (each_take (HoldsRead test) (length row) registers
+    told row = rows_are_told_lem test (take (length row) registers) row h
+        (each_take (HoldsRead test) (length row) registers
         holds)
 
 pub many_columns : {V : Type 0} (items : V → List ℕ) (A : List ℕ → Option Bool → Type 0) (limit : ℕ) (columns : List V)

@@ -134,7 +134,8 @@ lists_rows answers columns rows n is f test registers h holds same tells =
   where
     told : (row : List ℕ) → IsRow test (take (length row) registers) row
         ⊎ (IsRow test (take (length row) registers) row → ⊥)
-    told row = rows_are_told_lem test (take (length row) registers) row h (each_take (HoldsRead test) (length row) registers
+    told row = rows_are_told_lem test (take (length row) registers) row h
+        (each_take (HoldsRead test) (length row) registers
         holds)
 
 -- A push.
@@ -159,7 +160,8 @@ pub front_keeps : {V : Type 0} (items : V → List ℕ) (p : List ℕ → Bool) 
 front_keeps items p front values i old before after b l h k e =
     let P : List ℕ → Type 0 = λ z. map items after ≡ map items old ++ front_with p front z in
     subst P (sym (take_more values i (get_or values i 0) 0 l refl))
-    (block_more p front (take i values) (get_or values i 0) (map items old) (map items before) (map items after) b h k e)
+    (block_more p front (take i values) (get_or values i 0) (map items old) (map items before)
+        (map items after) b h k e)
 
 pub front_ends : (p : List ℕ → Bool) (front values : List ℕ) (i : ℕ) (old after : List (List ℕ)) → length values ≤ i
     → after ≡ old ++ front_with p front (take i values) → after ≡ old ++ front_with p front values
@@ -316,7 +318,8 @@ go_keeps_front items A limit values fronts i front f old after l e h k m = (
       ap (map items) (take_more fronts i front front l e) ∙ map-append items (take i fronts) (front ∷ []) in
       let P : List (List ℕ) → Type 0 = λ z. Each (λ (row : List ℕ). length row + 1 ≤ n) z in
       let all = subst P whole short in
-      let low : length f + 1 ≤ n = (let q : length (items front) + 1 ≤ n = (each_right (λ (row : List ℕ). length row + 1 ≤ n)
+      let low : length f + 1 ≤ n = (let q : length (items front) + 1 ≤ n =
+          (each_right (λ (row : List ℕ). length row + 1 ≤ n)
       (map items (take i fronts)) (items front ∷ []) all).0 in let r = ap length h in omega arith) in
       go_keeps items p values fronts i front f old after l e h
       (k.0 n p (each_left (λ (row : List ℕ). length row + 1 ≤ n) (map items (take i fronts)) (items front ∷ []) all) a)
@@ -337,7 +340,8 @@ go_many items A limit values fronts i front f old l e h k m n p short a =
     ∙ (λ j. first ++ items (sym e j) ∷ map items s.0) in
     let P : List (List ℕ) → Type 0 = λ z. Each (λ (row : List ℕ). length row + 1 ≤ n) z in
     let all = subst P whole short in
-    let low : length f + 1 ≤ n = (let q : length (items front) + 1 ≤ n = (each_right (λ (row : List ℕ). length row + 1 ≤ n)
+    let low : length f + 1 ≤ n = (let q : length (items front) + 1 ≤ n =
+        (each_right (λ (row : List ℕ). length row + 1 ≤ n)
     first (items front ∷ map items s.0) all).0 in let r = ap length h in omega arith) in
     let mine = k.0 n p (each_left (λ (row : List ℕ). length row + 1 ≤ n) first (items front ∷ map items s.0) all) a in
     let many = m n p low a in
@@ -345,7 +349,8 @@ go_many items A limit values fronts i front f old l e h k m n p short a =
     (λ j. mine j ++ front_with p (h j) values) ∙ sym (gone_more p values first (items front)) in
     let b = ap length more in
     let c = gone_longer p values (first ++ items front ∷ []) (map items s.0) in
-    let d = ap (λ z. length (gone_on p values z)) (whole ∙ sym (append_assoc first (items front ∷ []) (map items s.0))) in
+    let d = ap (λ z. length (gone_on p values z))
+        (whole ∙ sym (append_assoc first (items front ∷ []) (map items s.0))) in
     omega arith
 
 pub go_gives_up : {V : Type 0} (items : V → List ℕ) (A : List ℕ → Option Bool → Type 0) (fronts : List V) (i : ℕ)

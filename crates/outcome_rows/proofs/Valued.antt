@@ -159,7 +159,8 @@ from_ends test run (register ∷ registers) (v ∷ vs) is h z =
     (source_named test run any h.0.reads is) in
     let r = reading_from test register s.node in
     let ends = held_from test run register s.node is h.0 s.is in
-    let value : text_value test s.node ≡ v = some_same (final_value test (steps_of test run) register.thread register.reg)
+    let value : text_value test s.node ≡ v =
+        some_same (final_value test (steps_of test run) register.thread register.reg)
     (text_value test s.node) v ends z.0 in
     record {
       readings = r ∷ rest.readings;

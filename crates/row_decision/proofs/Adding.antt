@@ -55,7 +55,8 @@ edges_are test readings edges is sound complete a b =
         let P : ℕ → ℕ → Type 0 = λ x y. edge_among test readings [] (node_at x) (node_at y) ≡ true in
         pair_back P a b f.here f.passes
         (each_among (λ (p : PairOf). edge_among test readings [] (node_at p.first) (node_at p.second) ≡ true) f.here
-        edges f.among (recursion_from_All (λ (p : PairOf). edge_among test readings [] (node_at p.first) (node_at p.second) ≡ true) edges sound))
+        edges f.among (recursion_from_All
+            (λ (p : PairOf). edge_among test readings [] (node_at p.first) (node_at p.second) ≡ true) edges sound))
 
     there : edge_among test readings [] (node_at a) (node_at b) ≡ true → has_pair edges a b ≡ true
     there h =
@@ -207,7 +208,8 @@ site_small test x i d sites is e l =
     small_at test (get_or sites i d) k.action is k.stands
 
 pub choice_is : (reader source other : Node) (a b c : ℕ) → node_at a ≡ reader → node_at b ≡ source → node_at c ≡ other
-    → choice_seen (record { reader = a; source = b; other = c }) ≡ record { reader = reader; source = source; other = other }
+    → choice_seen (record { reader = a; source = b; other = c })
+        ≡ record { reader = reader; source = source; other = other }
 choice_is reader source other a b c e f g = (λ i. record { reader = e i; source = f i; other = g i })
 
 pub choices_more : (test : LitmusTest) (rs : List Reading) (r : Reading)
@@ -217,7 +219,8 @@ choices_more test (x ∷ rs) r =
     ap (λ l. choices_of test x ++ l) (choices_more test rs r)
     ∙ sym (append_assoc (choices_of test x) (choices_among test rs) (choices_of test r))
 
-pub choices_step : (test : LitmusTest) (readings : List ReadingOf) (i : ℕ) (d : ReadingOf) (before after : List ChoiceOf)
+pub choices_step : (test : LitmusTest) (readings : List ReadingOf) (i : ℕ) (d : ReadingOf)
+    (before after : List ChoiceOf)
     → i < length readings
     → map choice_seen before ≡ choices_among test (map seen (take i readings))
     → map choice_seen after ≡ map choice_seen before ++ choices_of test (seen (get_or readings i d))

@@ -159,7 +159,8 @@ filter_append p (x ∷ xs) ys = go (p x) (filter_append p xs ys)
     go true e = ap (λ l. x ∷ l) e
     go false e = e
 
-pub sources_more : (test : LitmusTest) (v : ℕ) (sites : List Site) (i : ℕ) (d : Site) (old before after : List (Option Node))
+pub sources_more : (test : LitmusTest) (v : ℕ) (sites : List Site) (i : ℕ) (d : Site)
+    (old before after : List (Option Node))
     (b : Bool) → i < length sites → before ≡ old ++ map store_source (filter (writes_value test v) (take i sites))
     → writes_value test v (get_or sites i d) ≡ b
     → after ≡ cond b (before ++ store_source (get_or sites i d) ∷ []) before
@@ -178,21 +179,26 @@ sources_more test v sites i d old before after b l h k e =
 
     split : (c : Bool) → writes_value test v (get_or sites i d) ≡ c
         → map store_source (filter (writes_value test v) (take i sites ++ get_or sites i d ∷ []))
-        ≡ map store_source (filter (writes_value test v) (take i sites)) ++ map store_source (cond c (get_or sites i d ∷ []) [])
+        ≡ map store_source (filter (writes_value test v) (take i sites))
+            ++ map store_source (cond c (get_or sites i d ∷ []) [])
     split c m =
         ap (map store_source) (filter_append (writes_value test v) (take i sites) (get_or sites i d ∷ []))
-        ∙ map-append store_source (filter (writes_value test v) (take i sites)) (filter (writes_value test v) (get_or sites i d ∷ []))
-        ∙ ap (λ z. map store_source (filter (writes_value test v) (take i sites)) ++ map store_source (cond z (get_or sites i d ∷ []) [])) m
+        ∙ map-append store_source (filter (writes_value test v) (take i sites))
+            (filter (writes_value test v) (get_or sites i d ∷ []))
+        ∙ ap (λ z. map store_source (filter (writes_value test v) (take i sites))
+            ++ map store_source (cond z (get_or sites i d ∷ []) [])) m
 
     go : (c : Bool) → writes_value test v (get_or sites i d) ≡ c
         → cond c (before ++ store_source (get_or sites i d) ∷ []) before
         ≡ old ++ map store_source (filter (writes_value test v) (take i sites ++ get_or sites i d ∷ []))
     go true m =
         ap (λ z. z ++ store_source (get_or sites i d) ∷ []) h
-        ∙ append_assoc old (map store_source (filter (writes_value test v) (take i sites))) (store_source (get_or sites i d) ∷ [])
+        ∙ append_assoc old (map store_source (filter (writes_value test v) (take i sites)))
+            (store_source (get_or sites i d) ∷ [])
         ∙ ap (λ z. old ++ z) (sym (split true m))
     go false m =
-        h ∙ ap (λ z. old ++ z) (sym (split false m ∙ append-nil (map store_source (filter (writes_value test v) (take i sites)))))
+        h ∙ ap (λ z. old ++ z) (sym (split false m ∙ append-nil
+            (map store_source (filter (writes_value test v) (take i sites)))))
 
 -- ---- lists by their first
 
@@ -291,7 +297,8 @@ some_at test registers values chosen sources i lr lv e l some =
     let S : List (Option Node) → Type 0 = λ z. In o z in
     let s = source_is test x v o (subst S e (get_in sources i None l)) in
     let P : List RegisterOf → Type 0 = λ z. SomeFrom test (map register_seen z) values chosen in
-    let Q : List ℕ → Type 0 = λ z. SomeFrom test (first_register registers ∷ map register_seen (drop 1 registers)) z chosen in
+    let Q : List ℕ → Type 0 =
+        λ z. SomeFrom test (first_register registers ∷ map register_seen (drop 1 registers)) z chosen in
     subst P (sym (first_drop registers d lr)) (subst Q (sym (first_drop values 0 lv))
     (some_step test chosen (first_register registers) (map register_seen (drop 1 registers)) v (drop 1 values) o s.0 s.1
     some))
@@ -300,7 +307,8 @@ some_at test registers values chosen sources i lr lv e l some =
 pub none_all : (test : LitmusTest) (registers : List RegisterOf) (values : List ℕ) (chosen : List Reading)
     (sources : List (Option Node)) → 0 < length registers → 0 < length values
     → sources ≡ sources_with test (location_of_read test (first_register registers)) (get_or values 0 0)
-    → Each (λ o. NoneFrom test (map register_seen (drop 1 registers)) (drop 1 values) (chosen_with test registers chosen o))
+    → Each (λ o. NoneFrom test (map register_seen (drop 1 registers)) (drop 1 values)
+        (chosen_with test registers chosen o))
     sources
     → NoneFrom test (map register_seen registers) values chosen
 none_all test registers values chosen sources lr lv e none =
@@ -311,7 +319,8 @@ none_all test registers values chosen sources lr lv e none =
     (chosen_with test registers chosen o) in
     let S : List (Option Node) → Type 0 = λ z. Each N z in
     let P : List RegisterOf → Type 0 = λ z. NoneFrom test (map register_seen z) values chosen in
-    let Q : List ℕ → Type 0 = λ z. NoneFrom test (first_register registers ∷ map register_seen (drop 1 registers)) z chosen in
+    let Q : List ℕ → Type 0 =
+        λ z. NoneFrom test (first_register registers ∷ map register_seen (drop 1 registers)) z chosen in
     subst P (sym (first_drop registers d lr)) (subst Q (sym (first_drop values 0 lv))
     (none_step test chosen (first_register registers) (map register_seen (drop 1 registers)) v (drop 1 values)
     (λ o src is. each_at_in N (sources_with test x v) o (subst S e none) (source_in test x v o src is))))
@@ -321,7 +330,8 @@ pub none_values : (test : LitmusTest) (registers : List RegisterOf) (values : Li
 none_values test registers values chosen lr lv =
     let d : RegisterOf = record { thread = 0; reg = Eax } in
     let P : List RegisterOf → Type 0 = λ z. NoneFrom test (map register_seen z) values chosen in
-    let Q : List ℕ → Type 0 = λ z. NoneFrom test (first_register registers ∷ map register_seen (drop 1 registers)) z chosen in
+    let Q : List ℕ → Type 0 =
+        λ z. NoneFrom test (first_register registers ∷ map register_seen (drop 1 registers)) z chosen in
     subst P (sym (first_drop registers d lr)) (subst Q (sym (nil_from values lv))
     (none_long test chosen (first_register registers) (map register_seen (drop 1 registers))))
 
@@ -425,7 +435,8 @@ impossible_none test registers values chosen most steps front e h =
 
 pub sources_are : (test : LitmusTest) (registers : List RegisterOf) (values : List ℕ) (reader : Node) (location : ℕ)
     (sources items : List (Option Node)) → reader ≡ read_of test (first_register registers)
-    → location ≡ site_location test (site reader) → sources ≡ items → items ≡ sources_with test location (get_or values 0 0)
+    → location ≡ site_location test (site reader) → sources ≡ items
+    → items ≡ sources_with test location (get_or values 0 0)
     → sources ≡ sources_with test (location_of_read test (first_register registers)) (get_or values 0 0)
 sources_are test registers values reader location sources items e f g h =
     g ∙ h ∙ ap (λ z. sources_with test z (get_or values 0 0)) (f ∙ ap (λ z. site_location test (site z)) e)

@@ -104,7 +104,8 @@ read_value test n edge wanted marks events b t v d unread free = go d.source
         finds_memory test n edge wanted marks events b t d.location none
         ∙ b.stored d.location (spot t (marks t).done) f unread shut
 
-    source_access : (f : FromStore test n edge d.location (spot t (marks t).done)) → is_access f.stores.slot.action ≡ true
+    source_access : (f : FromStore test n edge d.location (spot t (marks t).done))
+        → is_access f.stores.slot.action ≡ true
     source_access f =
         storing_access f.stores.slot.action (store_stores d.location f.stores.slot.action f.stores.stores)
 
@@ -415,7 +416,8 @@ none_queue test n marks t none = go (queue test n marks t) refl
         let o = oldest (loop_of test n t) (marks t).drained (marks t).done w ws e in
         absurd (true≢false (sym o.storing ∙ none o.place w o.from o.below o.stands))
 
-pub goes_exchange : (test : LitmusTest) (n : ℕ) (edge : Spot → Spot → Bool) (wanted : Spot → ℕ → Bool) (marks : ℕ → Mark)
+pub goes_exchange : (test : LitmusTest) (n : ℕ) (edge : Spot → Spot → Bool) (wanted : Spot → ℕ → Bool)
+    (marks : ℕ → Mark)
     (events : List Event) → AllDraw test n edge wanted → Begun test n edge wanted marks events → (t : ℕ) (s : Slot)
     → t < length test.bodies → slice_get (loop_of test n t) (marks t).done ≡ Some s
     → ((v : ℕ) → Gives s.action (Exchanged v)) → is_storing s.action ≡ true

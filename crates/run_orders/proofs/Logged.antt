@@ -573,7 +573,8 @@ draws_log test n logs writers right a v h = go (slot_in test n a) refl h
     go (Some s) e k =
         let p = and_parts (is_reading s.action) (v == slot_logged test logs a.thread s) k in
         let P : ℕ → Type 0 = λ z. Draws test n (log_edge test n logs) a z in
-        subst P (sym (eqb-true v (slot_logged test logs a.thread s) p.1)) (draws_slot test n logs writers right a s e p.0)
+        subst P (sym (eqb-true v (slot_logged test logs a.thread s) p.1))
+            (draws_slot test n logs writers right a s e p.0)
 
 -- The logs of the run.
 

@@ -80,7 +80,8 @@ chosen test n edge wanted marks events order draws b m o free = go (cases_lt m.i
     waits : m.index < (marks m.thread).done → (is_storing o.slot.action ≡ true) ⊎ (is_storing o.slot.action ≡ false)
         → Goes test n edge wanted marks events
     waits l (inr q) =
-        let late : (marks m.thread).done ≤ m.index = late_load (is_storing o.slot.action) (marks m.thread) m.index q o.late
+        let late : (marks m.thread).done ≤ m.index =
+            late_load (is_storing o.slot.action) (marks m.thread) m.index q o.late
         in
         absurd (omega arith)
     waits l (inl q) =
@@ -368,7 +369,8 @@ begun_begins test n edge wanted = record {
     threads = tt;
     stores = λ t i s a b. absurd (omega arith);
   };
-  closed = λ a b h o s at acc. record { slot = s; stands = at; access = acc; late = either (is_storing s.action) b.index };
+  closed = λ a b h o s at acc.
+      record { slot = s; stands = at; access = acc; late = either (is_storing s.action) b.index };
   start = λ x r f o. refl;
   stored = λ x r f o shut.
       let s = f.stores.slot in

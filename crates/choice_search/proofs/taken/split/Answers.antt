@@ -19,11 +19,13 @@ returns c = λ edges choices taken has left right.
     let all = c.in_ok-used.used.items in
     let l = c.args.left.tree in
     let r = c.args.right.tree in
-    let f : AreWithout (side_of choice first) us rest = rw (c.edge.ensures, c.deref.ensures.value) at c.in_ok-rest.ensures in
+    let f : AreWithout (side_of choice first) us rest =
+    rw (c.edge.ensures, c.deref.ensures.value) at c.in_ok-rest.ensures in
     let g : AreWithout (side_of choice (opposite_of first)) vs more =
     rw (c.edge-2.ensures, c.opposite.ensures, c.deref-2.ensures.value) at c.in_ok-more.ensures in
     let h : AreJoined rest more all = rw c.deref-3.ensures.value at c.in_ok-used.ensures in
-    let b = both_refute edges choices (side_of choice first) (side_of choice (opposite_of first)) taken us vs rest more all
+    let b = both_refute edges choices (side_of choice first)
+    (side_of choice (opposite_of first)) taken us vs rest more all
     l r f g h left.refutes left.within right.refutes right.within in
     let T : Tree → Type 0 = λ t. Refutes edges choices all t in
     let B : Tree → Type 0 = λ t. Refutes edges choices (before_source choice ∷ all) t in
