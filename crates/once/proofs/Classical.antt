@@ -147,12 +147,12 @@ asked_once test a b (Fr t column w) tells h =
     let f = follower_is test r.location 0 b k.1 in
     let o = other_store test t column tells.place w 0 tells.action b tells.reader tells.other f in
     let loc : named_by tells.action ≡ r.location =
-        sym (location_is test t column tells.place tells.action tells.reader) in
+    sym (location_is test t column tells.place tells.action tells.reader) in
     let A : ℕ → Type 0 = λ z. Among f.store (stores_of test z) in
     let is : node f.store ≡ b = ap node f.is in
     let P : Node → Type 0 = λ z. StoresAt test r.location z in
     let stores : StoresAt test r.location b =
-        subst P is (stores_at_site test r.location f.store (subst A loc o.stands)) in
+    subst P is (stores_at_site test r.location f.store (subst A loc o.stands)) in
     and_from (same_node r.reader a) (writes_to test r.location b && not (b.thread == r.reader.thread)) k.0
     (and_from (writes_to test r.location b) (not (b.thread == r.reader.thread)) (writes_from test r.location b stores)
     (not_from_false (b.thread == r.reader.thread) (ne_eqb b.thread r.reader.thread
@@ -214,7 +214,7 @@ edge_more test kinds taken tells a b h = let e = edge_cases test kinds a b h in 
         let readings = map (reading_of test) kinds in
         edge_from test readings taken a b na nb
         (or_left (is_kept test (site a) (site b) || list_any (asks_of test a b) readings)
-            (list_any (λ p. same_node p.first a
+        (list_any (λ p. same_node p.first a
         && same_node p.second b) taken)
         (or_left (is_kept test (site a) (site b)) (list_any (asks_of test a b) readings) k))
     go na nb (inr k) =

@@ -158,7 +158,7 @@ pub shown_or_cycle : (checked : CheckedTest) (c : ℕ) (taken : List Pair) → I
     → Closed (edge_once checked c taken) ⊎ ((run : List Event) × Shows checked c run)
 shown_or_cycle checked c taken h hides sides =
     go (run_or_cycle checked.test (readings_in checked c) taken (readings_are checked c h)
-        (hides_none checked c h hides)
+    (hides_none checked c h hides)
     sides)
   where
     go : Closed (edge_once checked c taken) ⊎ Made checked.test (readings_in checked c)

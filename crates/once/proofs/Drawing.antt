@@ -311,7 +311,7 @@ third_by test readings taken r s sides nr ns o w ne nt = go (sides c among)
     among = among_map (choice_of r.reader s) (site o) (filter (is_third r.reader s) (stores_of test r.location))
         (each_among (λ y. is_third r.reader s y ≡ true
         → Among y (filter (is_third r.reader s) (stores_of test r.location))) (site o)
-            (stores_of test r.location) stands
+        (stores_of test r.location) stands
         (among_kept (is_third r.reader s) (stores_of test r.location)) is)
 
     go : IsTaken taken (choice_of r.reader s (site o))

@@ -65,7 +65,7 @@ trees_are_needed_lem = (
     one_each = refl;
     below =
         All-from_recursion (λ i. i < 2) (0 ∷ 0 ∷ 0 ∷ 0 ∷ [])
-            (omega arith, (omega arith, (omega arith, (omega arith, tt))));
+        (omega arith, (omega arith, (omega arith, (omega arith, tt))));
   },
   twice_holds,
 )

@@ -1,5 +1,5 @@
--- In a run at a frame within which the atoms hold, or the sources are read, each edge leads forward, and of each choice one side does: so no tree
--- refutes the readings.
+-- In a run at a frame within which the atoms hold, or the sources are read, each edge leads forward, and of each choice
+-- one side does: so no tree refutes the readings.
 use Rattle.std.proofs.Common.{◌≡◌, ℕ, ◌+◌, ◌<◌, ◌≤◌, ◌==◌, ◌&&◌, ◌||◌, not, nat_lt, Bool, true, false, cond, Option, None, Some, List, [], ◌∷◌, ◌++◌, filter, map, option_map, slice_get, refl, sym, ap, ◌∙◌, arith, subst, inl, inr, ◌⊎◌}
 use Rattle.std.proofs.lemmas.Bool.{and_from, and_parts, both_ways, cases_eq, eqb-true, false_from_ne_true, ltb-true, or_cases, or_right}
 use Rattle.std.specs.List.{AllByRecursion as Each, list_all, list_any}
@@ -120,7 +120,7 @@ asks_leads test n run frame r s a b is f k h =
     first ne h =
         let p = and_parts (same_node s a) (same_node r.reader b) h in
         let l = each_leads test n run frame r s s r.reader k
-            (source_leads test n frame r.reader s k.cut.before k.cut.event
+        (source_leads test n frame r.reader s k.cut.before k.cut.event
         k.cut.after k.cut.at r.location k.loc k.cut.taken ne) in
         let P : Node → Type 0 = λ z. Leads run frame z r.reader in
         let Q : Node → Type 0 = λ z. Leads run frame a z in
@@ -334,7 +334,7 @@ fr_leads test n run frame t column w r f tells holds o v =
         go (inr ne) =
             let a = leads in
             let b = stores_in_order test n run frame (named_by tells.action)
-                (node tells.other.first) o r f head_stores q
+            (node tells.other.first) o r f head_stores q
             thread (omega arith) in
             omega arith
 

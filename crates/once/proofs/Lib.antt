@@ -4,6 +4,7 @@ pub mod Drawing
 pub mod Named
 pub mod Showing
 pub mod Deciding
+pub mod Places
 pub mod Turns
 pub mod Leading
 pub mod Forbidding
@@ -12,4 +13,5 @@ pub mod Conjoined
 pub mod Classical
 pub mod Ordered
 pub mod Examples
+pub mod KeptMoments
 pub mod Moments

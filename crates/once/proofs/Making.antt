@@ -62,7 +62,7 @@ order_between test edge kept = record {
       (storing_access a.action v) acc
       (keeps_storing (is_barred (body_of test t) p q) a.action b.action v
       (inr (any_between is_barrier (body_of test t) (p + 1) q i c.action (slot_action test t i c ct) w
-          (omega arith) m)));
+      (omega arith) m)));
 }
 
 stores_to : (test : LitmusTest) (x : ℕ) (a : Spot) → orders.StoresAt test 1 x a → StoresAt test x (at_node a)

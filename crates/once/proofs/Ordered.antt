@@ -133,7 +133,7 @@ none_hidden : (test : LitmusTest) (kinds : List AtomKind) → Each (λ kind. is_
     → list_any (is_hidden test) kinds ≡ false
 none_hidden test kinds h =
     any_none (is_hidden test) kinds (each_weaker (λ kind. is_ordered test kind ≡ true)
-        (λ kind. is_hidden test kind ≡ false)
+    (λ kind. is_hidden test kind ≡ false)
     (λ kind o. kind_hides test kind o) kinds h)
 
 pub ordered_has_no_choice_lem : OrderedHasNoChoice
@@ -312,7 +312,7 @@ kind_reaches test kinds (Fr t column w) a b am tells o na nb h =
     let v : StoresAt test x b = subst P loc (writes_tells test r.location b m.0) in
     let first = tells.other.first in
     let head : Among first (stores_of test x) =
-        record { front = []; rest = tells.other.others; whole = tells.other.stores }
+    record { front = []; rest = tells.other.others; whole = tells.other.stores }
     in
     let u = stores_at_site test x first head in
     let there = store_at x test b.thread b.place v.action v.stands v.stores in
@@ -357,7 +357,7 @@ kind_reaches test kinds (Exact t column w p) a b am tells o na nb h =
         → Reaches test kinds a b
     source k =
         let q = and_parts (same_node (record { thread = w; place = p }) a)
-            (same_node (node (reading_site test t column)) b)
+        (same_node (node (reading_site test t column)) b)
         k in
         let apart : (w == t) ≡ false = ne_eqb w t (λ e. tells.other.apart (sym e)) in
         let is : source_asked t w p ≡ Some (record { thread = w; place = p }) = rw apart refl in (
@@ -365,7 +365,7 @@ kind_reaches test kinds (Exact t column w p) a b am tells o na nb h =
           asked_edge test kinds a b (Exact t column w p) na nb am
               (or_left (is_the (source_asked t w p) a && same_node (node (reading_site test t column)) b)
               (same_node (node (reading_site test t column)) a
-                  && is_the (asked_of test (Exact t column w p)).follower b)
+              && is_the (asked_of test (Exact t column w p)).follower b)
               (and_from (is_the (source_asked t w p) a) (same_node (node (reading_site test t column)) b)
               (ap (λ z. is_the z a) is ∙ q.0) q.1)),
         )
@@ -419,14 +419,14 @@ kind_reaches test kinds (Exact t column w p) a b am tells o na nb h =
         → Reaches test kinds a b
     go (inl k) =
         front (or_cases (same_node (record { thread = w; place = p }) a
-            && same_node (node (reading_site test t column)) b)
+        && same_node (node (reading_site test t column)) b)
         (is_own_before test (reading_of test (Exact t column w p)) a
-            && same_node (record { thread = w; place = p }) b) k)
+        && same_node (record { thread = w; place = p }) b) k)
     go (inr k) = later k
 
 edge_reaches : (test : LitmusTest) (kinds : List AtomKind) (a b : Node) → Each (Tells test) kinds
     → Each (λ kind. is_ordered test kind ≡ true) kinds → edge_among test (map (reading_of test) kinds) [] a b ≡ true
-        → Reaches test kinds a b
+    → Reaches test kinds a b
 edge_reaches test kinds a b tells o h = let e = edge_is test (map (reading_of test) kinds) [] a b h in
     go e.from e.to e.why
   where

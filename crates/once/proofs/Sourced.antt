@@ -58,7 +58,7 @@ source_named test run r k is =
     let P : Site → Type 0 = λ z. NamesSource test 1 (site_location test z) (logged_in test run t column 0)
     (source_at test z 0 run) in
     let Q : ℕ → Type 0 = λ x. NamesSource test 1 x (logged_in test run t column 0)
-        (source_at test (site r.reader) 0 run)
+    (source_at test (site r.reader) 0 run)
     in
     subst Q k.location (subst P at (logged_names test 1 run t column p 0 k.action is (omega arith)
     (thread_below test t p k.action k.stands) a))
@@ -72,7 +72,7 @@ source_is test x v (Some s) None h src e =
     let w = writes_tells test x s src in
     let z : v ≡ 0 = h.initial.1 refl in
     let p : 1 ≤ rank_of test x (site s) =
-        (rank_within test x (site s) (store_at x test s.thread s.place w.action w.stands
+    (rank_within test x (site s) (store_at x test s.thread s.place w.action w.stands
     w.stores)).positive in
     absurd (omega arith)
 source_is test x v (Some s) (Some o) h src e =
@@ -221,7 +221,7 @@ initial_hidden test run r is k h source =
     let e : f.here.thread ≡ r.reader.thread = eqb-true f.here.thread r.reader.thread l.0 in
     let P : ℕ → Type 0 = λ u. StoresAt test x (record { thread = u; place = f.here.place }) in
     initial_own test 1 (zeros test) r.reader f.here.place c.before c.event c.after
-        (zeros_frame test) c.at x k.location c.taken
+    (zeros_frame test) c.at x k.location c.taken
     (subst P e (record { action = s.action; stands = s.stands; stores = s.stores }))
     (ltb-true f.here.place r.reader.place l.1)
 

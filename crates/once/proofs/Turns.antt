@@ -28,34 +28,7 @@ use Rattle.verdict.proofs.ReadEdges.{reading_no_store, source_here}
 use Rattle.verdict.proofs.Taken.{FromBuffer, FromMemory, Pending, among_self, pending_tells, taken_from}
 use Rattle.decision.proofs.OwnReads.{last_from, pending_from, twice, writes_turn}
 use Rattle.once.proofs.Draws.{location_at as node_location}
-
--- Places in a list.
-
-place_beyond : {X : Type 0} (p : X → Bool) (fs : List X) (y : X) (cs : List X) → list_any p fs ≡ false → p y ≡ false
-    → length fs < position_or_len p (fs ++ y ∷ cs)
-place_beyond p [] y cs h k = rw (k, one-add) (omega arith)
-place_beyond p (x ∷ fs) y cs h k =
-    let q = or_parts (p x) (list_any p fs) h in
-    let r = place_beyond p fs y cs q.1 k in
-    rw (q.0, one-add) (omega arith)
-
-place_past : {X : Type 0} (p : X → Bool) (fs cs : List X) → list_any p fs ≡ false
-    → length fs ≤ position_or_len p (fs ++ cs)
-place_past p [] cs h = omega arith
-place_past p (x ∷ fs) cs h =
-    let q = or_parts (p x) (list_any p fs) h in
-    let r = place_past p fs cs q.1 in
-    rw (q.0, one-add) (omega arith)
-
-at_most_step : (b : Bool) (m k : ℕ) → m ≤ k → cond (not b) (1 + m) 0 ≤ suc k
-at_most_step true m k h = omega arith
-at_most_step false m k h = omega arith
-
-place_at_most : {X : Type 0} (p : X → Bool) (fs : List X) (y : X) (cs : List X) → p y ≡ true
-    → position_or_len p (fs ++ y ∷ cs) ≤ length fs
-place_at_most p [] y cs h = rw h (omega arith)
-place_at_most p (x ∷ fs) y cs h =
-    at_most_step (p x) (position_or_len p (fs ++ y ∷ cs)) (length fs) (place_at_most p fs y cs h)
+use Rattle.once.proofs.Places.{place_at_most, place_beyond, place_past}
 
 -- A store, or an exchange, to x in an iteration.
 pub record Stores (test : LitmusTest) (x : ℕ) (o : Origin) : Type 0 where
@@ -455,7 +428,7 @@ pub waits_last : (test : LitmusTest) (x : ℕ) (before : List Event) (e : Event)
 waits_last test x before e o w z =
     let q = last_from (is_pending test e.thread x before) w.among.front w.event w.among.rest w.pending in
     let no : Some q.last ≡ None = sym q.is
-        ∙ sym (ap (last_that (is_pending test e.thread x before)) w.among.whole) ∙ z in
+    ∙ sym (ap (last_that (is_pending test e.thread x before)) w.among.whole) ∙ z in
     cc
 
 pub waits_buffer : (test : LitmusTest) (x : ℕ) (before : List Event) (e : Event) (o s : Origin)

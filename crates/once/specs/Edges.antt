@@ -1,7 +1,7 @@
 -- What reads and their sources, as the atoms of a conjunction name them, ask of a run of one iteration: edges that each
--- such run keeps, and choices of two edges of which it keeps one. Read-from and from-read are those of axiomatic memory models (Alglave, Maranget and
--- Tautschnig, "Herding cats", TOPLAS 2014); in place of an order of all stores of a location there are the choices,
--- which are this project's own.
+-- such run keeps, and choices of two edges of which it keeps one. Read-from and from-read are those of axiomatic memory
+-- models (Alglave, Maranget and Tautschnig, "Herding cats", TOPLAS 2014); in place of an order of all stores of a
+-- location there are the choices, which are this project's own.
 use Rattle.std.specs.Prelude.{◌≡◌, ℕ, ◌==◌, ◌&&◌, ◌||◌, ◌⊎◌, Bool, false, not, nat_lt, Option, None, Some, List, [], ◌∷◌, ◌++◌, filter, map}
 use Rattle.std.specs.List.{list_any}
 use Rattle.std.specs.Option.{option_map_or}

@@ -97,8 +97,8 @@ OrderedHasNoChoice =
     → IsOrdered checked c
     → HidesNothing checked c × (choices_in checked c ≡ [])
 
--- law: there is a conjunction that a tree refutes, though all of its atoms hold at a frame of a run of two iterations, so
--- that no cycle of the edges of verdicts forbids it
+-- law: there is a conjunction that a tree refutes, though all of its atoms hold at a frame of a run of two iterations,
+-- so that no cycle of the edges of verdicts forbids it
 abbrev pub TreesAreNeeded : Type 0
 TreesAreNeeded =
     (checked : CheckedTest)

@@ -1,5 +1,5 @@
--- The order of the moments in a run: a store's moment is when it reaches memory, and that of any other action when it is
--- done (x86-TSO: Sewell, Sarkar, Owens, Zappa Nardelli and Myreen, CACM 2010).
+-- The order of the moments in a run: a store's moment is when it reaches memory, and that of any other action when it
+-- is done (x86-TSO: Sewell, Sarkar, Owens, Zappa Nardelli and Myreen, CACM 2010).
 use Rattle.std.specs.Prelude.{◌≡◌, ℕ, ◌==◌, ◌&&◌, Bool, false, not, nat_lt, Option, None, Some, List, Contains}
 use Rattle.std.specs.List.{position_or_len}
 use Rattle.x86_subset.specs.Test.{LitmusTest}
@@ -31,7 +31,7 @@ pub record IsOrdered (test : LitmusTest) (n : ℕ) (run : List Event) : Type 0 w
       → Draws test n (comes_before test n run) (spot_of test e) v
   pub acyclic : (cycle : List Spot) → is_cycle_of (comes_before test n run) cycle ≡ false
 
--- law: so it is in each run. With `run_along` of run_orders: reads of n iterations can have some values exactly where an
--- order without cycle says so
+-- law: so it is in each run. With `run_along` of run_orders: reads of n iterations can have some values exactly where
+-- an order without cycle says so
 abbrev pub RunsAreOrdered : Type 0
 RunsAreOrdered = (test : LitmusTest) (n : ℕ) (run : List Event) → IsRunOf test n run → IsOrdered test n run

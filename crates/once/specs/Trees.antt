@@ -1,4 +1,5 @@
--- A tree of cases that refutes readings, as those of a conjunction: a cycle, or a choice and a tree for each of its sides. This project's own.
+-- A tree of cases that refutes readings, as those of a conjunction: a cycle, or a choice and a tree for each of its
+-- sides. This project's own.
 use Rattle.std.specs.Prelude.{◌≡◌, ℕ, true, List, ◌∷◌, Contains}
 use Rattle.x86_subset.specs.Test.{LitmusTest}
 use Rattle.profile_check.specs.Profile.{CheckedTest}

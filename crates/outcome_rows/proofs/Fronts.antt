@@ -30,7 +30,7 @@ kept_on test a b h = go ((edge_is test [] [] a b h).why)
     go (inl k) =
         let p = and_parts ((a.thread == b.thread) && nat_lt a.place b.place)
         (keeps_at (is_barred (body_of test a.thread) a.place b.place) (action_at test (site a))
-            (action_at test (site b))) k
+        (action_at test (site b))) k
         in
         ltb-true a.place b.place ((and_parts (a.thread == b.thread) (nat_lt a.place b.place) p.0).1)
     go (inr (inl k)) = cc
@@ -111,7 +111,7 @@ value_comes test steps register v x h ends =
     let same : text_value test e.0 ≡ v = cc in
     let Q : ℕ → Type 0 = λ z. Contains (values_stored test register) z in
     subst Q same (contains_from_among (values_stored test register) (text_value test e.0)
-        (stored_value test register e.0
+    (stored_value test register e.0
     e.1))
 
 pub row_ends : (test : LitmusTest) (registers : List Register) (register : Register) (values : List ℕ)

@@ -42,7 +42,7 @@ many_rows A limit columns i column fronts l seam kept many test registers rows h
     let short : E (rows_from p (take i columns) ([] ∷ [])) =
     each_weaker (λ (x : List ℕ). length x ≡ 0 + length (take i columns)) (λ (x : List ℕ). length x + 1 ≤ length columns)
     (λ x k. omega arith) (rows_from p (take i columns) ([] ∷ []))
-        (rows_long p (take i columns) ([] ∷ []) 0 (refl, tt)) in
+    (rows_long p (take i columns) ([] ∷ []) 0 (refl, tt)) in
     let big = many (length columns) p (subst E (sym is) short) by in
     let next : gone_on p column fronts ≡ rows_of test first p = ap (gone_on p column) is
     ∙ sym (rows_more p (take i columns) column ([] ∷ []))

@@ -54,7 +54,7 @@ rows_step test done register fronts possible h tells rows values = (
       let passes = (tells values (row_long test (done ++ register ∷ []) values row)).1 row in
       let P : List ℕ → Type 0 = λ l. In l (gone_on possible (column_of_values test register) fronts) in
       subst P (sym e.is) (in_gone possible (column_of_values test register) fronts e.front e.value
-          ((rows e.front).1 e.row)
+      ((rows e.front).1 e.row)
       (in_risen (values_stored test register) e.value (in_from (values_stored test register) e.value e.can_come))
       (sym (ap possible e.is) ∙ passes)),
 )

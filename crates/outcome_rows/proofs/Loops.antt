@@ -161,7 +161,7 @@ front_keeps items p front values i old before after b l h k e =
     let P : List ℕ → Type 0 = λ z. map items after ≡ map items old ++ front_with p front z in
     subst P (sym (take_more values i (get_or values i 0) 0 l refl))
     (block_more p front (take i values) (get_or values i 0) (map items old) (map items before)
-        (map items after) b h k e)
+    (map items after) b h k e)
 
 pub front_ends : (p : List ℕ → Bool) (front values : List ℕ) (i : ℕ) (old after : List (List ℕ)) → length values ≤ i
     → after ≡ old ++ front_with p front (take i values) → after ≡ old ++ front_with p front values
@@ -319,7 +319,7 @@ go_keeps_front items A limit values fronts i front f old after l e h k m = (
       let P : List (List ℕ) → Type 0 = λ z. Each (λ (row : List ℕ). length row + 1 ≤ n) z in
       let all = subst P whole short in
       let low : length f + 1 ≤ n = (let q : length (items front) + 1 ≤ n =
-          (each_right (λ (row : List ℕ). length row + 1 ≤ n)
+      (each_right (λ (row : List ℕ). length row + 1 ≤ n)
       (map items (take i fronts)) (items front ∷ []) all).0 in let r = ap length h in omega arith) in
       go_keeps items p values fronts i front f old after l e h
       (k.0 n p (each_left (λ (row : List ℕ). length row + 1 ≤ n) (map items (take i fronts)) (items front ∷ []) all) a)
@@ -341,7 +341,7 @@ go_many items A limit values fronts i front f old l e h k m n p short a =
     let P : List (List ℕ) → Type 0 = λ z. Each (λ (row : List ℕ). length row + 1 ≤ n) z in
     let all = subst P whole short in
     let low : length f + 1 ≤ n = (let q : length (items front) + 1 ≤ n =
-        (each_right (λ (row : List ℕ). length row + 1 ≤ n)
+    (each_right (λ (row : List ℕ). length row + 1 ≤ n)
     first (items front ∷ map items s.0) all).0 in let r = ap length h in omega arith) in
     let mine = k.0 n p (each_left (λ (row : List ℕ). length row + 1 ≤ n) first (items front ∷ map items s.0) all) a in
     let many = m n p low a in
@@ -350,7 +350,7 @@ go_many items A limit values fronts i front f old l e h k m n p short a =
     let b = ap length more in
     let c = gone_longer p values (first ++ items front ∷ []) (map items s.0) in
     let d = ap (λ z. length (gone_on p values z))
-        (whole ∙ sym (append_assoc first (items front ∷ []) (map items s.0))) in
+    (whole ∙ sym (append_assoc first (items front ∷ []) (map items s.0))) in
     omega arith
 
 pub go_gives_up : {V : Type 0} (items : V → List ℕ) (A : List ℕ → Option Bool → Type 0) (fronts : List V) (i : ℕ)

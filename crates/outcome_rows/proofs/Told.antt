@@ -164,7 +164,7 @@ rest_told test chosen [] [] are held = go (run_told test chosen are)
   where
     to : (readings : List Reading) → AllZip (IsReadingOf test) [] readings
         → ((run : List Event) × HasSources test (chosen ++ readings) run)
-            → (run : List Event) × HasSources test chosen run
+        → (run : List Event) × HasSources test chosen run
     to [] z r = let P : List Reading → Type 0 = λ l. HasSources test l r.0 in (r.0, subst P (append-nil chosen) r.1)
     to (y ∷ ys) z r = absurd z
 

@@ -160,7 +160,7 @@ from_ends test run (register ∷ registers) (v ∷ vs) is h z =
     let r = reading_from test register s.node in
     let ends = held_from test run register s.node is h.0 s.is in
     let value : text_value test s.node ≡ v =
-        some_same (final_value test (steps_of test run) register.thread register.reg)
+    some_same (final_value test (steps_of test run) register.thread register.reg)
     (text_value test s.node) v ends z.0 in
     record {
       readings = r ∷ rest.readings;

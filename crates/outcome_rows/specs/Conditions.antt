@@ -1,4 +1,4 @@
--- What a row says of the condition of a test.
+-- What a row says of the condition of a test, as herdtools' litmus format has it. This project's own.
 use Rattle.std.specs.Prelude.{◌≡◌, ℕ, ◌==◌, ◌&&◌, Bool, true, Option, None, Some, List, [], ◌∷◌, All, if◌then◌else◌}
 use Rattle.std.specs.List.{list_any}
 use Rattle.x86_subset.specs.Conjunctions.{conjunction_of}

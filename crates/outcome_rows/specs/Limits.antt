@@ -1,4 +1,4 @@
--- Rows up to a limit, by answers that may not be given.
+-- Rows up to a limit, by answers that may not be given. This project's own.
 use Rattle.std.specs.Prelude.{◌≡◌, ℕ, ◌+◌, ◌<◌, ◌≤◌, ◌++◌, Bool, Option, None, List, [], ◌∷◌, length}
 use Rattle.std.specs.List.{AllByRecursion as Each}
 use Rattle.x86_subset.specs.Test.{HoldsReads, LitmusTest}

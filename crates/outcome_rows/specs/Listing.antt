@@ -1,11 +1,10 @@
 -- All rows of a test, register by register: the front parts of rows that are possible are gone on with each value that
 -- can come in the next register. This project's own.
-use Rattle.std.specs.Prelude.{◌≡◌, ◌↔◌, ℕ, ◌≤◌, ◌==◌, ◌&&◌, ◌||◌, Bool, true, false, nat_lt, Contains, List, [], ◌∷◌, ◌++◌, filter, length, map, take, if◌then◌else◌}
+use Rattle.std.specs.Prelude.{◌≡◌, ◌↔◌, ℕ, ◌≤◌, ◌==◌, ◌&&◌, ◌||◌, Bool, true, false, nat_lt, Contains, Option, Some, List, [], ◌∷◌, ◌++◌, filter, length, map, take, if◌then◌else◌}
 use Rattle.std.specs.List.{AllByRecursion as Each}
 use Rattle.x86_subset.specs.Test.{HoldsReads, LitmusTest}
 use Rattle.seq_conv.specs.Sequence.{Site, stores_of}
 use Rattle.verdict.specs.Edges.{node}
-use Rattle.std.specs.Prelude.{Option, Some}
 use Rattle.outcome_rows.specs.Rows.{HoldReads, IsRow, Register, location_of_read, text_value}
 
 -- ---- values that can come

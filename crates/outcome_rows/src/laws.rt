@@ -1,4 +1,4 @@
-//! Laws of rows.
+//! What sources, edges and trees of cases say of rows, and rows of the condition.
 ghost use Rattle.outcome_rows.specs.Laws.{AllRowsAreOne, FrontsAreFewer, OutcomesAreRows, RisingAreOnce, RowsAreDecided, RowsAreListed, RowsAreSources, RowsAreTold, RowsBegin, RowsGoOn, RowsTakeValues, SomeExecution};
 
 /// The rows of a test are the values of sources that a run of one iteration has.

@@ -56,7 +56,7 @@ edges_are test readings edges is sound complete a b =
         pair_back P a b f.here f.passes
         (each_among (λ (p : PairOf). edge_among test readings [] (node_at p.first) (node_at p.second) ≡ true) f.here
         edges f.among (recursion_from_All
-            (λ (p : PairOf). edge_among test readings [] (node_at p.first) (node_at p.second) ≡ true) edges sound))
+        (λ (p : PairOf). edge_among test readings [] (node_at p.first) (node_at p.second) ≡ true) edges sound))
 
     there : edge_among test readings [] (node_at a) (node_at b) ≡ true → has_pair edges a b ≡ true
     there h =
@@ -209,7 +209,7 @@ site_small test x i d sites is e l =
 
 pub choice_is : (reader source other : Node) (a b c : ℕ) → node_at a ≡ reader → node_at b ≡ source → node_at c ≡ other
     → choice_seen (record { reader = a; source = b; other = c })
-        ≡ record { reader = reader; source = source; other = other }
+    ≡ record { reader = reader; source = source; other = other }
 choice_is reader source other a b c e f g = (λ i. record { reader = e i; source = f i; other = g i })
 
 pub choices_more : (test : LitmusTest) (rs : List Reading) (r : Reading)

@@ -180,13 +180,13 @@ sources_more test v sites i d old before after b l h k e =
     split : (c : Bool) → writes_value test v (get_or sites i d) ≡ c
         → map store_source (filter (writes_value test v) (take i sites ++ get_or sites i d ∷ []))
         ≡ map store_source (filter (writes_value test v) (take i sites))
-            ++ map store_source (cond c (get_or sites i d ∷ []) [])
+        ++ map store_source (cond c (get_or sites i d ∷ []) [])
     split c m =
         ap (map store_source) (filter_append (writes_value test v) (take i sites) (get_or sites i d ∷ []))
         ∙ map-append store_source (filter (writes_value test v) (take i sites))
-            (filter (writes_value test v) (get_or sites i d ∷ []))
+        (filter (writes_value test v) (get_or sites i d ∷ []))
         ∙ ap (λ z. map store_source (filter (writes_value test v) (take i sites))
-            ++ map store_source (cond z (get_or sites i d ∷ []) [])) m
+        ++ map store_source (cond z (get_or sites i d ∷ []) [])) m
 
     go : (c : Bool) → writes_value test v (get_or sites i d) ≡ c
         → cond c (before ++ store_source (get_or sites i d) ∷ []) before
@@ -194,11 +194,11 @@ sources_more test v sites i d old before after b l h k e =
     go true m =
         ap (λ z. z ++ store_source (get_or sites i d) ∷ []) h
         ∙ append_assoc old (map store_source (filter (writes_value test v) (take i sites)))
-            (store_source (get_or sites i d) ∷ [])
+        (store_source (get_or sites i d) ∷ [])
         ∙ ap (λ z. old ++ z) (sym (split true m))
     go false m =
         h ∙ ap (λ z. old ++ z) (sym (split false m ∙ append-nil
-            (map store_source (filter (writes_value test v) (take i sites)))))
+        (map store_source (filter (writes_value test v) (take i sites)))))
 
 -- ---- lists by their first
 
@@ -298,7 +298,7 @@ some_at test registers values chosen sources i lr lv e l some =
     let s = source_is test x v o (subst S e (get_in sources i None l)) in
     let P : List RegisterOf → Type 0 = λ z. SomeFrom test (map register_seen z) values chosen in
     let Q : List ℕ → Type 0 =
-        λ z. SomeFrom test (first_register registers ∷ map register_seen (drop 1 registers)) z chosen in
+    λ z. SomeFrom test (first_register registers ∷ map register_seen (drop 1 registers)) z chosen in
     subst P (sym (first_drop registers d lr)) (subst Q (sym (first_drop values 0 lv))
     (some_step test chosen (first_register registers) (map register_seen (drop 1 registers)) v (drop 1 values) o s.0 s.1
     some))
@@ -308,7 +308,7 @@ pub none_all : (test : LitmusTest) (registers : List RegisterOf) (values : List 
     (sources : List (Option Node)) → 0 < length registers → 0 < length values
     → sources ≡ sources_with test (location_of_read test (first_register registers)) (get_or values 0 0)
     → Each (λ o. NoneFrom test (map register_seen (drop 1 registers)) (drop 1 values)
-        (chosen_with test registers chosen o))
+    (chosen_with test registers chosen o))
     sources
     → NoneFrom test (map register_seen registers) values chosen
 none_all test registers values chosen sources lr lv e none =
@@ -320,7 +320,7 @@ none_all test registers values chosen sources lr lv e none =
     let S : List (Option Node) → Type 0 = λ z. Each N z in
     let P : List RegisterOf → Type 0 = λ z. NoneFrom test (map register_seen z) values chosen in
     let Q : List ℕ → Type 0 =
-        λ z. NoneFrom test (first_register registers ∷ map register_seen (drop 1 registers)) z chosen in
+    λ z. NoneFrom test (first_register registers ∷ map register_seen (drop 1 registers)) z chosen in
     subst P (sym (first_drop registers d lr)) (subst Q (sym (first_drop values 0 lv))
     (none_step test chosen (first_register registers) (map register_seen (drop 1 registers)) v (drop 1 values)
     (λ o src is. each_at_in N (sources_with test x v) o (subst S e none) (source_in test x v o src is))))
@@ -331,7 +331,7 @@ none_values test registers values chosen lr lv =
     let d : RegisterOf = record { thread = 0; reg = Eax } in
     let P : List RegisterOf → Type 0 = λ z. NoneFrom test (map register_seen z) values chosen in
     let Q : List ℕ → Type 0 =
-        λ z. NoneFrom test (first_register registers ∷ map register_seen (drop 1 registers)) z chosen in
+    λ z. NoneFrom test (first_register registers ∷ map register_seen (drop 1 registers)) z chosen in
     subst P (sym (first_drop registers d lr)) (subst Q (sym (nil_from values lv))
     (none_long test chosen (first_register registers) (map register_seen (drop 1 registers))))
 

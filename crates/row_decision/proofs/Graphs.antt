@@ -54,7 +54,7 @@ pair_taken test readings taken p a b has is h k =
     let nb = subst P (eqb-true p.second b q.1) has.1 in
     edge_from test readings (map pair_seen taken) (node_at a) (node_at b) na nb
     (or_right (is_kept test (site (node_at a)) (site (node_at b))
-        || list_any (asks_of test (node_at a) (node_at b)) readings)
+    || list_any (asks_of test (node_at a) (node_at b)) readings)
     (list_any (is_pair (node_at a) (node_at b)) (map pair_seen taken)) k)
 
 edge_more : (test : LitmusTest) (readings : List Reading) (taken : List Pair) (a b : Node)
@@ -138,7 +138,7 @@ tree_down test readings edges choices taken (Split' c p l q r) es cs ns has h =
     let i = in_map choice_seen choices c (in_from choices c h.0) in
     let n : AreNodes test (choice_seen c) =
     each_among (AreNodes test) (choice_seen c) (map choice_seen choices)
-        (in_among (map choice_seen choices) (choice_seen c) i) ns in
+    (in_among (map choice_seen choices) (choice_seen c) i) ns in
     let P : List Choice → Type 0 = λ l. Contains l (choice_seen c) in (
       subst P cs (in_to (map choice_seen choices) (choice_seen c) i),
       tree_down test readings edges choices (before_of c ∷ taken) l es cs ns ((n.other, n.source), has) h.1,
@@ -178,7 +178,7 @@ pair_up : (a b : Node) (p : PairOf) → is_pair a b (pair_seen p) ≡ true → i
 pair_up a b p h =
     let k = and_parts (same_node (node_at p.first) a) (same_node (node_at p.second) b) h in
     and_from (p.first == number_of a) (p.second == number_of b)
-        (eq-eqb p.first (number_of a) (number_same p.first a k.0))
+    (eq-eqb p.first (number_of a) (number_same p.first a k.0))
     (eq-eqb p.second (number_of b) (number_same p.second b k.1))
 
 pairs_up : (a b : Node) (sides : List PairOf) → list_any (is_pair a b) (map pair_seen sides) ≡ true

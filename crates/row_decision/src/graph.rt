@@ -50,8 +50,10 @@ fn add_edges(
     edges: &mut Vec<Pair>,
 ) -> Result<(), NoMemory>
     ensures sound { OnOk result (
-        All (λ (p : Pair). edge_among test.now (map seen readings.now) [] (node_at p.first) (node_at p.second) ≡ true) edges.old.items
-        → All (λ (p : Pair). edge_among test.now (map seen readings.now) [] (node_at p.first) (node_at p.second) ≡ true) edges.new.items) }
+        All (λ (p : Pair).
+        edge_among test.now (map seen readings.now) [] (node_at p.first) (node_at p.second) ≡ true) edges.old.items
+        → All (λ (p : Pair).
+        edge_among test.now (map seen readings.now) [] (node_at p.first) (node_at p.second) ≡ true) edges.new.items) }
     ensures kept { OnOk result ((a b : ℕ) → has_pair edges.old.items a b ≡ true → has_pair edges.new.items a b ≡ true) }
     ensures complete { OnOk result ((b : ℕ) → b < 128
         → edge_among test.now (map seen readings.now) [] (node_at first) (node_at b) ≡ true

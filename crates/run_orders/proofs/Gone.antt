@@ -76,7 +76,7 @@ total_less test n marks t r (suc k) l h = go (λ m. total_less test n marks t r 
         < left test n k (marks k) + total test n marks k
     go rec (inl e) =
         let b : total test n (updated marks t r) k ≡ total test n marks k =
-            total_same test n marks t r k (omega arith) in
+        total_same test n marks t r k (omega arith) in
         let P : ℕ → Type 0 = λ u. left test n u (updated marks t r u) < left test n u (marks u) in
         let Q : ℕ → Type 0 = λ z. z < left test n t (marks t) in
         let a : left test n k (updated marks t r k) < left test n k (marks k) = subst P e
@@ -328,7 +328,7 @@ next_drain test n marks events t place s g below o =
     ((g.stands.own t).buffer ∙ ap (map (slot_write test t)) w.1) in
     let d = stands_drain test n z marks e g.stands needs in
     let same : place ≡ d.place =
-        here d.place (record { iteration = s.iteration; place = s.place; action = d.action }) d.of
+    here d.place (record { iteration = s.iteration; place = s.place; action = d.action }) d.of
     refl refl in
     let r : Mark = record { done = m.done; drained = place + 1 } in
     let P : ℕ → Type 0 = λ y. Stands test n (after test z e) (updated marks t

@@ -4,4 +4,5 @@ pub mod Begun
 pub mod Opens
 pub mod Going
 pub mod Making
+pub mod LogEdges
 pub mod Logged

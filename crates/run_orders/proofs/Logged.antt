@@ -35,123 +35,9 @@ use Rattle.run_orders.specs.Orders.{Draws, FromStart, FromStore, IsWanted, Keeps
 use Rattle.run_orders.proofs.Begun.{location_at, one_slot, slot_action, spot, storing_access}
 use Rattle.run_orders.proofs.Going.{reading_access}
 use Rattle.run_orders.proofs.Gone.{deed, deeds}
+use Rattle.run_orders.proofs.LogEdges.{Reader, before_edge, from_edge, kept_edge, order_of}
 use Rattle.run_orders.proofs.Making.{run_along_lem, slot_thread}
 use Rattle.run_orders.proofs.Opens.{NoStoreIn}
-
--- Kept order.
-
-keeps_storing : (b : Bool) (x y : Instr) → is_storing x ≡ true → (is_storing y ≡ true) ⊎ (b ≡ true) → keeps b x y ≡ true
-keeps_storing b (Store l v) (Store m w) h k = refl
-keeps_storing b (Store l v) (Load r m) h (inl k) = cc
-keeps_storing b (Store l v) (Load r m) h (inr k) = k
-keeps_storing b (Store l v) Fence h k = refl
-keeps_storing b (Store l v) (Exchange m w r) h k = refl
-keeps_storing b (Load r l) y h k = cc
-keeps_storing b Fence y h k = cc
-keeps_storing b (Exchange l v r) y h k = refl
-
-keeps_reading : (b : Bool) (x y : Instr) → is_reading x ≡ true → keeps b x y ≡ true
-keeps_reading b (Load r l) y h = refl
-keeps_reading b (Exchange l v r) y h = refl
-keeps_reading b _ y h = cc
-
-any_take : {X : Type 0} (f : X → Bool) (xs : List X) (q d : ℕ) (a : X) → slice_get xs d ≡ Some a → f a ≡ true → d < q
-    → list_any f (take q xs) ≡ true
-any_take f [] q d a h k l = cc
-any_take f (x ∷ xs) zero d a h k l = absurd (omega arith)
-any_take f (x ∷ xs) (suc q) zero a h k l = let s : x ≡ a = cc in or_left (f x) (list_any f (take q xs)) (ap f s ∙ k)
-any_take f (x ∷ xs) (suc q) (suc d) a h k l =
-    or_right (f x) (list_any f (take q xs)) (any_take f xs q d a h k (omega arith))
-
-drop_none : {X : Type 0} (xs : List X) → drop 0 xs ≡ xs
-drop_none [] = refl
-drop_none (x ∷ xs) = refl
-
-any_between : {X : Type 0} (f : X → Bool) (xs : List X) (k q d : ℕ) (a : X) → slice_get xs d ≡ Some a → f a ≡ true
-    → k ≤ d → d < q → list_any f (drop k (take q xs)) ≡ true
-any_between f [] k q d a h e m l = cc
-any_between f (x ∷ xs) zero q d a h e m l =
-    ap (list_any f) (drop_none (take q (x ∷ xs))) ∙ any_take f (x ∷ xs) q d a h e l
-any_between f (x ∷ xs) (suc k) zero d a h e m l = absurd (omega arith)
-any_between f (x ∷ xs) (suc k) (suc q) zero a h e m l = absurd (omega arith)
-any_between f (x ∷ xs) (suc k) (suc q) (suc d) a h e m l = any_between f xs k q d a h e (omega arith) (omega arith)
-
-kept_edge : (test : LitmusTest) (n : ℕ) (logs : List Values) (t p q : ℕ) (a b : Slot) → p < q
-    → slice_get (loop_of test n t) p ≡ Some a → slice_get (loop_of test n t) q ≡ Some b → is_access a.action ≡ true
-    → is_access b.action ≡ true → keeps (is_barred_in test n t p q) a.action b.action ≡ true
-    → log_edge test n logs (spot t p) (spot t q) ≡ true
-kept_edge test n logs t p q a b l at bt v w k =
-    let barred = is_barred_in test n t p q in
-    let A = kept_in test n (spot t p) (spot t q) in
-    let B = reads_from test logs t t (slice_get (loop_of test n t) p) (slice_get (loop_of test n t) q) in
-    let C = reads_before test logs t t (slice_get (loop_of test n t) p) (slice_get (loop_of test n t) q) in
-    let both : keeps_slots barred (slice_get (loop_of test n t) p) (slice_get (loop_of test n t) q) ≡ true =
-    (λ i. keeps_slots barred (at i) (bt i))
-    ∙ and_from (is_access a.action && is_access b.action) (keeps barred a.action b.action)
-    (and_from (is_access a.action) (is_access b.action) v w) k in
-    or_left (A || B) C (or_left A B
-    (and_from ((t == t) && nat_lt p q) (keeps_slots barred (slice_get (loop_of test n t) p)
-    (slice_get (loop_of test n t) q)) (and_from (t == t) (nat_lt p q) (eq-eqb t t refl) (lt-ltb p q l)) both))
-
-order_of : (test : LitmusTest) (n : ℕ) (logs : List Values) → KeepsOrder test n (log_edge test n logs)
-order_of test n logs = record {
-  reading = λ t p q a b l at bt r acc. kept_edge test n logs t p q a b l at bt (reading_access a.action r) acc
-      (keeps_reading (is_barred_in test n t p q) a.action b.action r);
-  storing = λ t p q a b l at bt v w. kept_edge test n logs t p q a b l at bt (storing_access a.action v)
-      (storing_access b.action w) (keeps_storing (is_barred_in test n t p q) a.action b.action v (inl w));
-  barred = λ t p i q a c b l m at ct bt v w acc.
-      let k : p < q = omega arith in
-      kept_edge test n logs t p q a b k at bt (storing_access a.action v) acc
-      (keeps_storing (is_barred_in test n t p q) a.action b.action v
-      (inr (any_between (λ (s : Slot). is_barrier s.action) (loop_of test n t) (p + 1) q i c ct w (omega arith) m)));
-}
-
--- Reads.
-
--- a read of another thread's location
-record Reader (test : LitmusTest) (n : ℕ) (a : Spot) (s : Slot) : Type 0 where
-  stands : slot_in test n a ≡ Some s
-  reading : is_reading s.action ≡ true
-
-from_edge : (test : LitmusTest) (n : ℕ) (logs : List Values) (a : Spot) (s : Slot) → Reader test n a s → (o : Spot)
-    → (w : StoresAt test n (slot_location test a.thread s) o)
-    → stores_to test a.thread (slot_location test a.thread s) ≡ false
-    → slot_stores test o.thread w.slot ≡ slot_logged test logs a.thread s → log_edge test n logs o a ≡ true
-from_edge test n logs a s r o w other value =
-    let x = slot_location test a.thread s in
-    let A = kept_in test n o a in
-    let B = reads_from test logs o.thread a.thread (slot_in test n o) (slot_in test n a) in
-    let C = reads_before test logs o.thread a.thread (slot_in test n o) (slot_in test n a) in
-    let both : B ≡ true = (λ i. reads_from test logs o.thread a.thread (w.stands i) (r.stands i))
-    ∙ and_from (is_storing w.slot.action && reads_other test a.thread s && (slot_location test o.thread w.slot == x))
-    (slot_stores test o.thread w.slot == slot_logged test logs a.thread s)
-    (and_from (is_storing w.slot.action && reads_other test a.thread s) (slot_location test o.thread w.slot == x)
-    (and_from (is_storing w.slot.action) (reads_other test a.thread s) (store_stores x w.slot.action w.stores)
-    (and_from (is_reading s.action) (not (stores_to test a.thread x)) r.reading
-    (not_from_false (stores_to test a.thread x) other)))
-    (eq-eqb (slot_location test o.thread w.slot) x (location_at test n x o w)))
-    (eq-eqb (slot_stores test o.thread w.slot) (slot_logged test logs a.thread s) value) in
-    or_left (A || B) C (or_right A B both)
-
-before_edge : (test : LitmusTest) (n : ℕ) (logs : List Values) (a : Spot) (s : Slot) → Reader test n a s → (o : Spot)
-    → (w : StoresAt test n (slot_location test a.thread s) o)
-    → stores_to test a.thread (slot_location test a.thread s) ≡ false
-    → slot_logged test logs a.thread s < slot_stores test o.thread w.slot → log_edge test n logs a o ≡ true
-before_edge test n logs a s r o w other value =
-    let x = slot_location test a.thread s in
-    let A = kept_in test n a o in
-    let B = reads_from test logs a.thread o.thread (slot_in test n a) (slot_in test n o) in
-    let C = reads_before test logs a.thread o.thread (slot_in test n a) (slot_in test n o) in
-    let both : C ≡ true = (λ i. reads_before test logs a.thread o.thread (r.stands i) (w.stands i))
-    ∙ and_from (is_storing w.slot.action && reads_other test a.thread s && (slot_location test o.thread w.slot == x))
-    (nat_lt (slot_logged test logs a.thread s) (slot_stores test o.thread w.slot))
-    (and_from (is_storing w.slot.action && reads_other test a.thread s) (slot_location test o.thread w.slot == x)
-    (and_from (is_storing w.slot.action) (reads_other test a.thread s) (store_stores x w.slot.action w.stores)
-    (and_from (is_reading s.action) (not (stores_to test a.thread x)) r.reading
-    (not_from_false (stores_to test a.thread x) other)))
-    (eq-eqb (slot_location test o.thread w.slot) x (location_at test n x o w)))
-    (lt-ltb (slot_logged test logs a.thread s) (slot_stores test o.thread w.slot) value) in
-    or_right (A || B) C both
 
 -- Stores of one thread.
 
@@ -574,7 +460,7 @@ draws_log test n logs writers right a v h = go (slot_in test n a) refl h
         let p = and_parts (is_reading s.action) (v == slot_logged test logs a.thread s) k in
         let P : ℕ → Type 0 = λ z. Draws test n (log_edge test n logs) a z in
         subst P (sym (eqb-true v (slot_logged test logs a.thread s) p.1))
-            (draws_slot test n logs writers right a s e p.0)
+        (draws_slot test n logs writers right a s e p.0)
 
 -- The logs of the run.
 

@@ -81,7 +81,7 @@ chosen test n edge wanted marks events order draws b m o free = go (cases_lt m.i
         → Goes test n edge wanted marks events
     waits l (inr q) =
         let late : (marks m.thread).done ≤ m.index =
-            late_load (is_storing o.slot.action) (marks m.thread) m.index q o.late
+        late_load (is_storing o.slot.action) (marks m.thread) m.index q o.late
         in
         absurd (omega arith)
     waits l (inl q) =

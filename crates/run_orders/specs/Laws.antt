@@ -1,6 +1,6 @@
--- Law: what an order asks of the reads of loops is had by a run, or the order has a cycle. For candidate executions that
--- fix the order of all stores this is in Alglave, Maranget and Tautschnig ("Herding cats", TOPLAS 2014), and for the
--- machine in Sewell, Sarkar, Owens, Zappa Nardelli and Myreen ("x86-TSO", CACM 2010).
+-- Laws: what an order asks of the reads of loops is had by a run, or the order has a cycle. For candidate executions
+-- that fix the order of all stores this is in Alglave, Maranget and Tautschnig ("Herding cats", TOPLAS 2014), and for
+-- the machine in Sewell, Sarkar, Owens, Zappa Nardelli and Myreen ("x86-TSO", CACM 2010).
 use Rattle.std.specs.Prelude.{◌≡◌, ◌⊎◌, ℕ, Bool, true, List, All}
 use Rattle.x86_subset.specs.Test.{LitmusTest}
 use Rattle.load_log.specs.Values.{Values}
@@ -12,8 +12,8 @@ use Rattle.run_witness.specs.Right.{AreRight}
 use Rattle.run_orders.specs.Logs.{log_edge}
 use Rattle.run_orders.specs.Orders.{Draws, IsWanted, KeepsOrder, Spot}
 
--- law: where edges have kept order and say what is wanted of reads of n iterations, some run of n iterations has the reads
--- take it, or the edges have a cycle
+-- law: where edges have kept order and say what is wanted of reads of n iterations, some run of n iterations has the
+-- reads take it, or the edges have a cycle
 abbrev pub RunAlong : Type 0
 RunAlong =
     (test : LitmusTest) (n : ℕ) (edge : Spot → Spot → Bool) (wanted : Spot → ℕ → Bool)

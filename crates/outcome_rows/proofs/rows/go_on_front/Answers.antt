@@ -14,7 +14,7 @@ returns-then-len-limit g c n p l a =
     let row : c.push.new.self.items ≡ front ++ v ∷ [] =
     c.in_ok-push.ensures.items ∙ ap (λ (z : List ℕ). z ++ v ∷ []) c.in_ok-row.ensures.items in
     let told : c.in-Some.possible ≡ p (front ++ v ∷ []) =
-        answer_at (λ row r. FnReturnsAt g.F.Fn c.args.decide.now row r) n p front v c.in-Some.possible l a (record {
+    answer_at (λ row r. FnReturnsAt g.F.Fn c.args.decide.now row r) n p front v c.in-Some.possible l a (record {
       shown = c.deref.result;
       shows = c.deref.ensures.value ∙ row;
       says = record { met = c.in-Some.ensures };
@@ -22,7 +22,7 @@ returns-then-len-limit g c n p l a =
     let old : List (Vec ℕ Global) = c.args.rows.now.items in
     let before : List (Vec ℕ Global) = c.loop-value.rows.items in
     front_many items p front values i c.args.limit old before c.loop-value-test.true
-        (let o = c.loop-value.rows.ok in omega arith)
+    (let o = c.loop-value.rows.ok in omega arith)
     (c.loop-value.invariant.0 n p l a) (sym c.if-possible.true ∙ told)
 
 pub loop-value-preserved : goal.loop-value-preserved
@@ -36,7 +36,7 @@ loop-value-preserved g c = (
       let row : c.push.new.self.items ≡ front ++ v ∷ [] =
       c.in_ok-push.ensures.items ∙ ap (λ (z : List ℕ). z ++ v ∷ []) c.in_ok-row.ensures.items in
       let told : c.in-Some.possible ≡ p (front ++ v ∷ []) =
-          answer_at (λ row r. FnReturnsAt g.F.Fn c.args.decide.now row r) n p front v c.in-Some.possible l a (record {
+      answer_at (λ row r. FnReturnsAt g.F.Fn c.args.decide.now row r) n p front v c.in-Some.possible l a (record {
         shown = c.deref.result;
         shows = c.deref.ensures.value ∙ row;
         says = record { met = c.in-Some.ensures };

@@ -25,8 +25,8 @@ returns c =
     record {
       within = c.in_ok-found.ensures.within;
       answer =
-          c.answer_of.ensures test readings c.deref.result.now c.deref-2.result.now c.args.most c.in_ok-found.found.steps
-          c.threads-threads.ensures.test c.requires.readings c.in_default.ensures
+          c.answer_of.ensures test readings c.deref.result.now c.deref-2.result.now c.args.most
+          c.in_ok-found.found.steps c.threads-threads.ensures.test c.requires.readings c.in_default.ensures
           (subst P (sym c.deref.ensures.value) c.in_ok-edges.ensures)
           (subst Q (sym c.deref-2.ensures.value) c.in_ok-choices.ensures) c.in_ok-found.ensures.outcome;
     }

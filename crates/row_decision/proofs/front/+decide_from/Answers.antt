@@ -41,8 +41,8 @@ decide_from-requires t c =
     let sources : List (Option Node) = c.deref-source-items.result.now in
     let lr = some_length (length registers) c.is_empty.result c.is_empty.ensures c.if-is_empty.false in
     let src = sources_are test registers values c.read_of-reader.result c.location-location.result sources
-    c.in_ok-sources.sources.items c.read_of-reader.ensures c.location-location.ensures c.deref-source-items.ensures.value
-    c.in_ok-sources.ensures in
+    c.in_ok-sources.sources.items c.read_of-reader.ensures c.location-location.ensures
+    c.deref-source-items.ensures.value c.in_ok-sources.ensures in
     let m = more_is c.args.readings.now c.in_ok-more.more.items c.push.new.self.items c.deref.result.now (record {
       reader = c.read_of-reader.result;
       location = c.location-location.result;
@@ -78,8 +78,8 @@ returns-then-not-is_impossible-clause-front t c =
     let lr = some_length (length registers) c.is_empty.result c.is_empty.ensures c.if-is_empty.false in
     let lv = some_length (length values) c.is_empty-2.result c.is_empty-2.ensures c.if-is_empty-2.false in
     let src = sources_are test registers values c.read_of-reader.result c.location-location.result sources
-    c.in_ok-sources.sources.items c.read_of-reader.ensures c.location-location.ensures c.deref-source-items.ensures.value
-    c.in_ok-sources.ensures in
+    c.in_ok-sources.sources.items c.read_of-reader.ensures c.location-location.ensures
+    c.deref-source-items.ensures.value c.in_ok-sources.ensures in
     let m = more_is c.args.readings.now c.in_ok-more.more.items c.push.new.self.items c.deref.result.now (record {
       reader = c.read_of-reader.result;
       location = c.location-location.result;
@@ -132,8 +132,8 @@ returns-clause-front t c =
     let lr = some_length (length registers) c.is_empty.result c.is_empty.ensures c.if-is_empty.false in
     let lv = some_length (length values) c.is_empty-2.result c.is_empty-2.ensures c.if-is_empty-2.false in
     let src = sources_are test registers values c.read_of-reader.result c.location-location.result sources
-    c.in_ok-sources.sources.items c.read_of-reader.ensures c.location-location.ensures c.deref-source-items.ensures.value
-    c.in_ok-sources.ensures in
+    c.in_ok-sources.sources.items c.read_of-reader.ensures c.location-location.ensures
+    c.deref-source-items.ensures.value c.in_ok-sources.ensures in
     let N : Option Node → Type 0 = λ o. NoneFrom test (map register_seen (drop 1 registers)) (drop 1 values)
     (chosen_with test registers (map seen c.args.readings.now) o) in
     let P : List (Option Node) → Type 0 = λ z. Each N z in

@@ -15,5 +15,5 @@ invariant-loop-source l =
     (l.steps ≤ l.fn.most)
     × Each (λ o. NoneFrom l.fn.test (map register_seen (drop 1 l.fn.registers)) (drop 1 l.fn.values)
     (map seen l.fn.readings ++ reading_from l.fn.test
-        (register_seen (get_or l.fn.registers 0 (record { thread = 0; reg = Eax }))) o ∷ []))
+    (register_seen (get_or l.fn.registers 0 (record { thread = 0; reg = Eax }))) o ∷ []))
     (take l.source-index l.source-items)

@@ -25,7 +25,7 @@ loop-site-preserved c =
     let after : List (Option Node) = c.if-value_of-value.sources.items in
     let e : sites ≡ stores_of test x = c.sites-site-items.ensures ∙ c.requires.same.stores x c.requires.location in
     let kept = c.loop-site.invariant
-        ∙ ap (λ z. old ++ map store_source (filter (writes_value test v) (take i z))) (sym e) in
+    ∙ ap (λ z. old ++ map store_source (filter (writes_value test v) (take i z))) (sym e) in
     let back = ap (λ z. old ++ map store_source (filter (writes_value test v) (take (i + 1) z))) e in
     elim c.if-value_of-value.branch [
       | then-value_of-value+in_ok-push w ↦

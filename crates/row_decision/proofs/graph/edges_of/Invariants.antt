@@ -8,7 +8,7 @@ use Rattle.row_decision.proofs.graph.edges_of.Given as goal
 abbrev pub invariant-loop-first : goal.invariant-loop-first
 invariant-loop-first l =
     All (λ (p : Pair).
-        edge_among l.fn.test (map seen l.fn.readings) [] (node_at p.first) (node_at p.second) ≡ true) l.edges.items
+    edge_among l.fn.test (map seen l.fn.readings) [] (node_at p.first) (node_at p.second) ≡ true) l.edges.items
     × ((a b : ℕ) → a < l.first → b < 128
-        → edge_among l.fn.test (map seen l.fn.readings) [] (node_at a) (node_at b) ≡ true
+    → edge_among l.fn.test (map seen l.fn.readings) [] (node_at a) (node_at b) ≡ true
     → has_pair l.edges.items a b ≡ true)
