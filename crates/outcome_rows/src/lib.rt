@@ -25,3 +25,6 @@ pub use laws::{
     some_execution,
 };
 pub use rows::{Stop, list_rows};
+
+#[cfg(test)]
+mod tests;

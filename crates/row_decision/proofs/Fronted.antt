@@ -260,6 +260,13 @@ holds_more test rs i d l h k =
     subst P (sym (ap (map register_seen) (take_more rs i r d l refl) ∙ map-append register_seen (take i rs) (r ∷ [])))
     (each_append (HoldsRead test) (map register_seen (take i rs)) (register_seen r ∷ []) h (k, tt))
 
+-- where one holds no read, not all do
+pub holds_none : (test : LitmusTest) (rs : List RegisterOf) (i : ℕ) (d : RegisterOf) → i < length rs
+    → (HoldsRead test (register_seen (get_or rs i d)) → ⊥) → HoldReads test (map register_seen rs) → ⊥
+holds_none test [] i d l none h = absurd (omega arith)
+holds_none test (r ∷ rs) zero d l none h = none h.0
+holds_none test (r ∷ rs) (suc i) d l none h = holds_none test rs i d (omega arith) none h.1
+
 pub register_below : (test : LitmusTest) (register : Register) → IsTest test → HoldsRead test register
     → location_of_read test register < length test.locations
 register_below test register is h =

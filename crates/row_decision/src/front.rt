@@ -263,7 +263,8 @@ fn holds_read(test: &Test, register: Register) -> bool
 
 /// Whether each of the registers holds a read at the end.
 pub fn hold_reads(test: &Test, registers: &[Register]) -> bool
-    ensures { result ≡ true → HoldReads test.now (map register_seen registers.now) }
+    ensures yes { result ≡ true → HoldReads test.now (map register_seen registers.now) }
+    ensures no { result ≡ false → HoldReads test.now (map register_seen registers.now) → ⊥ }
 {
     for register in registers {
         if !holds_read(test, *register) {
