@@ -5,7 +5,7 @@ use Rattle.std.proofs.lemmas.List.Elements.{All-from_recursion}
 use Rattle.perp_base.proofs.Lists.{Among, contains_from_among}
 use Rattle.profile_check.specs.Profile.{CheckedTest}
 use Rattle.verdict.specs.declared.node.Node.{Node}
-use Rattle.litmus_outcomes.proofs.Unordered.{readers, readers_checked, readers_kinds, twice, twice_holds, twice_is}
+use Rattle.litmus_outcomes.proofs.Unordered.{readers, readers_checked, readers_kinds, twice, twice_is}
 use Rattle.once.specs.Edges.{Choice, choices_in}
 use Rattle.once.specs.Laws.{TreesAreNeeded}
 use Rattle.once.specs.Trees.{Refutes, Tree, cycle, split}
@@ -67,5 +67,5 @@ trees_are_needed_lem = (
         All-from_recursion (λ i. i < 2) (0 ∷ 0 ∷ 0 ∷ 0 ∷ [])
         (omega arith, (omega arith, (omega arith, (omega arith, tt))));
   },
-  twice_holds,
+  refl,
 )

@@ -1,8 +1,8 @@
 -- In a run at a frame within which the atoms hold, or the sources are read, each edge leads forward, and of each choice
 -- one side does: so no tree refutes the readings.
 use Rattle.std.proofs.Common.{◌≡◌, ℕ, ◌+◌, ◌<◌, ◌≤◌, ◌==◌, ◌&&◌, ◌||◌, not, nat_lt, Bool, true, false, cond, Option, None, Some, List, [], ◌∷◌, ◌++◌, filter, map, option_map, slice_get, refl, sym, ap, ◌∙◌, arith, subst, inl, inr, ◌⊎◌}
-use Rattle.std.proofs.lemmas.Bool.{and_from, and_parts, both_ways, cases_eq, eqb-true, false_from_ne_true, ltb-true, or_cases, or_right}
-use Rattle.std.specs.List.{AllByRecursion as Each, list_all, list_any}
+use Rattle.std.proofs.lemmas.Bool.{and_from, and_parts, cases_eq, eqb-true, ltb-true, or_cases, or_right}
+use Rattle.std.specs.List.{AllByRecursion as Each, list_any}
 use Rattle.x86_subset.specs.Instr.{is_store_to}
 use Rattle.x86_subset.specs.Test.{LitmusTest, body_of}
 use Rattle.x86_subset.specs.declared.instr.Instr.{Instr}
@@ -478,17 +478,16 @@ each_mapped P f [] h = tt
 each_mapped P f (x ∷ xs) h = (h.0, each_mapped P f xs h.1)
 
 pub trees_forbid_within_lem : TreesForbidWithin
-trees_forbid_within_lem checked n c run frame tree h r f refutes =
+trees_forbid_within_lem checked n c run frame tree h r f refutes holds =
     let test = checked.test in
     let kinds = kinds_in checked c in
-    false_from_ne_true (list_all (holds_within test run frame) kinds) (λ holds.
     let H : AtomKind → Type 0 = λ kind. holds_within test run frame kind ≡ true in
     let all = each_from_among (λ kind. ReadingLeads test run frame (reading_of test kind)) kinds (λ kind am.
     kind_leads test n run frame kind r f
     (each_among (Tells test) kind kinds am (kinds_tell checked c h))
     (each_among H kind kinds am (each_all (holds_within test run frame) kinds holds))) in
     none_refutes test n (readings_in checked c) run frame [] tree r f
-    (each_mapped (ReadingLeads test run frame) (reading_of test) kinds all) tt refutes)
+    (each_mapped (ReadingLeads test run frame) (reading_of test) kinds all) tt refutes
 
 pub trees_forbid_lem : TreesForbid
 trees_forbid_lem checked c run tree h refutes shown =
@@ -496,8 +495,7 @@ trees_forbid_lem checked c run tree h refutes shown =
     let kinds = kinds_in checked c in
     let P : AtomKind → Type 0 = λ kind. holds_in test run (zeros test) kind ≡ true in
     let Q : AtomKind → Type 0 = λ kind. holds_within test run (zeros test) kind ≡ true in
-    both_ways (list_all (holds_within test run (zeros test)) kinds)
-    (trees_forbid_within_lem checked 1 c run (zeros test) tree h shown.0 (zeros_frame test) refutes)
+    trees_forbid_within_lem checked 1 c run (zeros test) tree h shown.0 (zeros_frame test) refutes
     (all_from (holds_within test run (zeros test)) kinds (each_from_among Q kinds (λ kind am.
     within_once test run kind shown.0 (each_among (Tells test) kind kinds am (kinds_tell checked c h))
-    (each_among P kind kinds am (each_all (holds_in test run (zeros test)) kinds shown.1)))))
+    (each_among P kind kinds am (each_all (holds_in test run (zeros test)) kinds shown.1))))

@@ -3,19 +3,18 @@
 -- Maranget and Tautschnig ("Herding cats", TOPLAS 2014) and, for the machine, in Sewell, Sarkar, Owens, Zappa Nardelli
 -- and Myreen ("x86-TSO", CACM 2010).
 use Rattle.std.specs.Prelude.{◌≡◌, ◌↔◌, ◌⊎◌, ℕ, false, List, [], true}
-use Rattle.std.specs.List.{AllZip, list_all, list_any}
+use Rattle.std.specs.List.{AllZip, list_any}
 use Rattle.x86_subset.specs.Test.{LitmusTest}
 use Rattle.tso_machine.specs.Event.{Event}
 use Rattle.tso_machine.specs.Run.{IsRunOf}
 use Rattle.profile_check.specs.Profile.{CheckedTest, IsChecked}
 use Rattle.outcome_conv.specs.Hits.{IsFrame}
-use Rattle.outcome_conv.specs.Holds.{holds_in}
 use Rattle.verdict.specs.declared.node.Node.{Node}
 use Rattle.verdict.specs.Edges.{edge_in, is_cycle_of, kinds_in}
 use Rattle.decision.specs.Hidden.{is_hidden}
 use Rattle.decision.specs.Shown.{IsOrdered, Shows}
 use Rattle.litmus_outcomes.specs.Outcome.{IsPossible}
-use Rattle.litmus_outcomes.specs.Within.{holds_within}
+use Rattle.litmus_outcomes.specs.Within.{AllHoldAt, AllHoldWithin}
 use Rattle.once.specs.Edges.{IsSideOf, Pair, Reading, choices_among, choices_in, edge_among, edge_once}
 use Rattle.once.specs.Sources.{AreReadings, HasSources, HidesNone, is_hidden_source}
 use Rattle.once.specs.Trees.{Refutes, RefutesAmong, Tree, cycle}
@@ -41,7 +40,8 @@ TreesForbidWithin =
     → IsRunOf checked.test n run
     → IsFrame checked.test n frame
     → Refutes checked c [] tree
-    → list_all (holds_within checked.test run frame) (kinds_in checked c) ≡ false
+    → AllHoldWithin checked run frame c
+    → ⊥
 
 -- law: where a side of each choice can be taken so that the edges have no cycle, and no hidden store is named, a run of
 -- one iteration shows the conjunction
@@ -109,7 +109,7 @@ TreesAreNeeded =
     × Refutes checked 0 [] tree
     × IsRunOf checked.test 2 run
     × IsFrame checked.test 2 frame
-    × (list_all (holds_in checked.test run frame) (kinds_in checked 0) ≡ true)
+    × AllHoldAt checked run frame 0
 
 -- ---- any reads and sources
 
