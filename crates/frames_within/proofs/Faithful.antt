@@ -16,14 +16,14 @@ use Rattle.verdict.specs.Edges.{kinds_in}
 use Rattle.verdict.proofs.Forward.{each_all, kinds_tell}
 use Rattle.litmus_outcomes.specs.Within.{IsSteady, holds_within, is_steady}
 use Rattle.litmus_outcomes.proofs.Possible.{each_below, frames_are}
-use Rattle.litmus_outcomes.proofs.Steady.{steady_agrees, steady_outcome}
+use Rattle.litmus_outcomes.proofs.Steady.{steady_agrees, steady_hits_are_outcomes_lem}
 use Rattle.frames_within.specs.Counting.{is_hit_within}
 use Rattle.frames_within.specs.Laws.{FaithfulHitsAreOutcomes, FaithfulHitsAreWithin}
 use Rattle.frames_within.specs.Loose.{IsFaithful}
 
 pub faithful_hits_are_outcomes_lem : FaithfulHitsAreOutcomes
 faithful_hits_are_outcomes_lem checked n c run frame h faithful there r f holds =
-    steady_outcome checked n c run frame h (faithful c there) r f holds
+    steady_hits_are_outcomes_lem checked n c run frame h (faithful c there) r f holds
 
 all_same : {X : Type 0} (p q : X → Bool) (xs : List X) → Each (λ x. p x ≡ q x) xs → list_all p xs ≡ list_all q xs
 all_same p q [] h = refl

@@ -1,5 +1,5 @@
--- Which tests are faithful: those whose atoms are all steady, so that whatever holds at a frame of a run holds within
--- it. This project's own.
+-- Which tests are faithful: those whose atoms are all steady (litmus_outcomes/specs/Within), so that whatever holds at a
+-- frame of a run holds within it. Of other tests, which atom is the first that is loose. This project's own.
 use Rattle.std.specs.Prelude.{◌≡◌, ℕ, ◌<◌, ◌≤◌, true, false, Some, length, slice_get}
 use Rattle.std.specs.List.{list_all, slice_range}
 use Rattle.x86_subset.specs.Conjunctions.{from_of, to_of}
@@ -11,8 +11,8 @@ use Rattle.litmus_outcomes.specs.Within.{IsSteady, is_steady}
 abbrev pub IsFaithful : CheckedTest → Type 0
 IsFaithful checked = (c : ℕ) → c < length checked.test.ends → IsSteady checked c
 
--- atom i, from 0 through the text, stands in conjunction c and is loose, and those before it in the conjunction are
--- steady
+-- atom i, counted from 0 through the text, is the first loose atom of conjunction c: it stands there and is loose, and
+-- those before it in the conjunction are steady
 pub record IsFirstLooseIn (checked : CheckedTest) (c i : ℕ) : Type 0 where
   pub from : from_of checked.test.ends c ≤ i
   pub to : i < to_of checked.test.ends c
@@ -21,7 +21,7 @@ pub record IsFirstLooseIn (checked : CheckedTest) (c i : ℕ) : Type 0 where
   pub loose : is_steady kind ≡ false
   pub earlier : list_all is_steady (slice_range checked.kinds (from_of checked.test.ends c) i) ≡ true
 
--- and so are all atoms of the conjunctions before it
+-- atom i, in conjunction c, is the first loose atom of the test: all atoms of the conjunctions before c are steady
 pub record IsFirstLoose (checked : CheckedTest) (c i : ℕ) : Type 0 where
   pub there : c < length checked.test.ends
   pub first : IsFirstLooseIn checked c i

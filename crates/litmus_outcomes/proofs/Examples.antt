@@ -1,5 +1,5 @@
--- The definitions at small tests: an execution has the values of the text, a read finds the own store buffer first, and
--- fences forbid what store buffering allows.
+-- The definitions at small tests: an execution has the values of the text, a read finds the newest own write that waits,
+-- fences and exchanges forbid what store buffering allows, and a register can hold a constant.
 use Rattle.std.proofs.Common.{◌≡◌, ℕ, zero, suc, true, false, Some, List, [], ◌∷◌, ◌++◌, refl}
 use Rattle.std.proofs.lemmas.List.Elements.{All-from_recursion}
 use Rattle.x86_subset.specs.Test.{Code, LitmusTest}
@@ -7,13 +7,13 @@ use Rattle.x86_subset.specs.declared.body.Held.{Held}
 use Rattle.x86_subset.specs.declared.body.Held.TheVariants as held
 use Rattle.x86_subset.specs.declared.instr.Instr.{Instr}
 use Rattle.x86_subset.specs.declared.instr.Instr.TheVariants as instr
-use Rattle.x86_subset.specs.declared.instr.Reg.TheVariants.{Eax}
+use Rattle.x86_subset.specs.declared.instr.Reg.TheVariants.{Eax, Ebx}
 use Rattle.x86_subset.specs.declared.test.Atom.{Atom}
 use Rattle.x86_subset.specs.declared.test.Quantifier.TheVariants.{Exists}
 use Rattle.tso_machine.specs.Event.{Event, Push, Drain, Read}
 use Rattle.tso_machine.specs.Run.{IsRunOf}
 use Rattle.tso_machine.proofs.Worked.{at, run_by}
-use Rattle.litmus_outcomes.specs.Machine.{Action, Drains, Fences, Reads, Step, Writes, start}
+use Rattle.litmus_outcomes.specs.Machine.{Action, AllowsAll, Drains, Exchanges, Fences, Reads, Step, Writes, end_of, found, start}
 use Rattle.litmus_outcomes.specs.Outcome.{IsExecution, IsPossible, final_value}
 use Rattle.litmus_outcomes.proofs.Exploring.{may_end}
 use Rattle.litmus_outcomes.proofs.Images.{is_execution, steps_of}
@@ -91,3 +91,78 @@ reads_own v (suc t) = []
 
 own_is_read : (may_end 1 4 start (reads_own 7) ≡ true) × (may_end 1 4 start (reads_own 0) ≡ false)
 own_is_read = (refl, refl)
+
+-- Of two own writes that wait the newer one is read. Another thread finds memory's 0 until the older one drains.
+
+abbrev stored_twice : List Step
+stored_twice = step 0 (Writes 0 7) ∷ step 0 (Writes 0 8) ∷ []
+
+newer_is_found : (found (end_of start stored_twice) 0 0 ≡ 8) × (found (end_of start stored_twice) 1 0 ≡ 0)
+newer_is_found = (refl, refl)
+
+older_drains : found (end_of start (stored_twice ++ step 0 (Drains 0 7) ∷ [])) 1 0 ≡ 7
+older_drains = refl
+
+-- So MOV [x],$7; MOV [x],$8; MOV EAX,[x] ends with EAX=8 while both writes wait.
+
+abbrev forwards : LitmusTest
+forwards =
+    test_of (code (instr.Store 0 7 ∷ instr.Store 0 8 ∷ instr.Load Eax 0 ∷ []) (held.Read 2) ∷ []) (atom 0 8 ∷ [])
+
+abbrev forwarding : List Step
+forwarding = stored_twice ++ step 0 (Reads 0 8) ∷ step 0 (Drains 0 7) ∷ step 0 (Drains 0 8) ∷ []
+
+forwarding_ends : AllowsAll start forwarding × (final_value forwards forwarding 0 Eax ≡ Some 8)
+forwarding_ends = ((tt, (tt, (refl, (refl, (refl, tt))))), refl)
+
+-- An exchange of 5 reads memory's 0, and 5 is in memory at once. XCHG [x],EAX leaves in EAX what it read.
+
+abbrev exchanges : LitmusTest
+exchanges = test_of (code (instr.Exchange 0 5 Eax ∷ []) (held.Read 0) ∷ []) (atom 0 0 ∷ [])
+
+abbrev exchanging : List Step
+exchanging = step 0 (Exchanges 0 0 5) ∷ []
+
+exchanging_ends : AllowsAll start exchanging × ((end_of start exchanging).memory 0 ≡ 5)
+    × (final_value exchanges exchanging 0 Eax ≡ Some 0)
+exchanging_ends = (((refl, refl), tt), (refl, refl))
+
+-- Of two threads that exchange x both cannot read 0. Exchanges in place of the stores forbid what store buffering allows.
+
+abbrev both_exchange : ℕ → ℕ → List Action
+both_exchange v zero = Exchanges 0 0 5 ∷ []
+both_exchange v (suc zero) = Exchanges 0 v 6 ∷ []
+both_exchange v (suc (suc t)) = []
+
+one_is_first : (may_end 2 3 start (both_exchange 5) ≡ true) × (may_end 2 3 start (both_exchange 0) ≡ false)
+one_is_first = (refl, refl)
+
+abbrev exchange_and_read : ℕ → List Action
+exchange_and_read zero = Exchanges 0 0 7 ∷ Reads 1 0 ∷ []
+exchange_and_read (suc zero) = Exchanges 1 0 9 ∷ Reads 0 0 ∷ []
+exchange_and_read (suc (suc t)) = []
+
+exchanges_forbid : may_end 2 5 start exchange_and_read ≡ false
+exchanges_forbid = refl
+
+-- An exchange waits until the own writes have drained: who reads its 5 reads the 7 that was written before it.
+
+abbrev write_and_exchange : ℕ → ℕ → List Action
+write_and_exchange v zero = Writes 1 7 ∷ Exchanges 0 0 5 ∷ []
+write_and_exchange v (suc zero) = Reads 0 5 ∷ Reads 1 v ∷ []
+write_and_exchange v (suc (suc t)) = []
+
+exchange_waits : (may_end 2 6 start (write_and_exchange 7) ≡ true)
+    × (may_end 2 6 start (write_and_exchange 0) ≡ false)
+exchange_waits = (refl, refl)
+
+-- After MOV EAX,$5; MOV [x],EAX the register EAX holds 5 still, and EBX what it held at the start.
+
+abbrev keeps : LitmusTest
+keeps = test_of (code (instr.Store 0 5 ∷ []) (held.Constant 5) ∷ []) (atom 0 5 ∷ [])
+
+abbrev keeping : List Step
+keeping = step 0 (Writes 0 5) ∷ step 0 (Drains 0 5) ∷ []
+
+constant_is_held : (final_value keeps keeping 0 Eax ≡ Some 5) × (final_value keeps keeping 0 Ebx ≡ Some 0)
+constant_is_held = (refl, refl)

@@ -25,7 +25,7 @@ use Rattle.tso_machine.proofs.Rising.{memory_values_before}
 use Rattle.tso_machine.proofs.Runs.{memory_after, memory_after_event}
 use Rattle.run_witness.proofs.Stands.{at_mark, at_two}
 use Rattle.litmus_outcomes.specs.Machine.{Action, Writes, Drains, Reads, Fences, Exchanges, Allows, AllowsAll, State, Step, Waiting, end_of, found, newest, next, start}
-use Rattle.litmus_outcomes.specs.Outcome.{Does, done_by, is_draining, value_of as value_read_in}
+use Rattle.litmus_outcomes.specs.Outcome.{Does, done_by, is_draining, value_read_by}
 use Rattle.litmus_outcomes.proofs.Values.{literal}
 use Rattle.litmus_outcomes.proofs.Rebuilt.{each_rest}
 use Rattle.litmus_outcomes.proofs.Images.{at_place_of, literal_of}
@@ -423,9 +423,9 @@ cut_drained test f s (e ∷ es) g n q l h t =
 pub record Did (test : LitmusTest) (f : ℕ → ℕ) (e : Event) (a : Action) : Type 0 where
   pub does : (i : Instr) → action_at test (site_of e) ≡ Some i → Gives i e.kind → Does i a
   pub named : (v : ℕ) (r : Site) → value_read e ≡ Some v → Among r (stores_of test (event_location test e))
-      → v ≡ value_of test (event_location test e) r (f r.thread) → value_read_in a ≡ Some (literal test r)
+      → v ≡ value_of test (event_location test e) r (f r.thread) → value_read_by a ≡ Some (literal test r)
   pub zero : (v w : ℕ) → value_read e ≡ Some v → OneThread test (event_location test e) w → (e.thread ≡ w → ⊥)
-      → v ≤ store_count test (event_location test e) * f w → value_read_in a ≡ Some 0
+      → v ≤ store_count test (event_location test e) * f w → value_read_by a ≡ Some 0
 
 does_in : (test : LitmusTest) (l : State) (e : Event) (i : Instr) (k : Kind) → action_at test (site_of e) ≡ Some i
     → Gives i k → Does i (act_as k test l e)
@@ -527,7 +527,7 @@ found_zero test f s l t x v w h n one ne low =
 named_as : (test : LitmusTest) (f : ℕ → ℕ) (s : RunState) (l : State) (e : Event) (k : Kind) (v : ℕ) (r : Site)
     → Within test f s l → NeedsAs k test s e → value_read_as k ≡ Some v
     → Among r (stores_of test (event_location test e)) → v ≡ value_of test (event_location test e) r (f r.thread)
-    → value_read_in (act_as k test l e) ≡ Some (literal test r)
+    → value_read_by (act_as k test l e) ≡ Some (literal test r)
 named_as test f s l e Push v r h n k a m = cc
 named_as test f s l e Drain v r h n k a m = cc
 named_as test f s l e (Read u) v r h n k a m =
@@ -541,7 +541,7 @@ named_as test f s l e (Exchanged u) v r h n k a m =
 zero_as : (test : LitmusTest) (f : ℕ → ℕ) (s : RunState) (l : State) (e : Event) (k : Kind) (v w : ℕ)
     → Within test f s l → NeedsAs k test s e → value_read_as k ≡ Some v → OneThread test (event_location test e) w
     → (e.thread ≡ w → ⊥) → v ≤ store_count test (event_location test e) * f w
-    → value_read_in (act_as k test l e) ≡ Some 0
+    → value_read_by (act_as k test l e) ≡ Some 0
 zero_as test f s l e Push v w h n k one ne low = cc
 zero_as test f s l e Drain v w h n k one ne low = cc
 zero_as test f s l e (Read u) v w h n k one ne low =

@@ -35,7 +35,7 @@ use Rattle.verdict.specs.Edges.{kinds_in}
 use Rattle.verdict.proofs.Forward.{each_all}
 use Rattle.litmus_outcomes.specs.Laws.{FramesWithinAreOutcomes}
 use Rattle.litmus_outcomes.specs.Machine.{Action, Step, start}
-use Rattle.litmus_outcomes.specs.Outcome.{Does, IsExecution, done_by, final_value, value_of as value_read_in}
+use Rattle.litmus_outcomes.specs.Outcome.{Does, IsExecution, done_by, final_value, value_read_by}
 use Rattle.litmus_outcomes.specs.Within.{holds_within, is_exactly}
 use Rattle.litmus_outcomes.proofs.Atoms.{OneNamed, chosen_ok, final_is, named_stands, says, written_is}
 use Rattle.litmus_outcomes.proofs.Possible.{each_back}
@@ -336,14 +336,14 @@ fr_within test n run frame t p w instr h a tells holds =
 -- what is read in the cut
 
 cut_value : (test : LitmusTest) (n : ℕ) (f : ℕ → ℕ) (run : List Event) (t p u : ℕ) (instr : Instr)
-    → (k : Taken test n f run t p instr) → value_read_in k.action ≡ Some u
-    → option_and_then value_read_in (slice_get (done_by t (cut_run test f run)) p) ≡ Some u
-cut_value test n f run t p u instr k h = ap (option_and_then value_read_in) k.at ∙ h
+    → (k : Taken test n f run t p instr) → value_read_by k.action ≡ Some u
+    → option_and_then value_read_by (slice_get (done_by t (cut_run test f run)) p) ≡ Some u
+cut_value test n f run t p u instr k h = ap (option_and_then value_read_by) k.at ∙ h
 
 cut_named : (test : LitmusTest) (n : ℕ) (f : ℕ → ℕ) (run : List Event) (t p v : ℕ) (instr : Instr) (s : Site)
     → Taken test n f run t p instr → OneNamed test (named_by instr) v s
     → logged_in test run t (column_of test t p) (f t) ≡ value_of test (named_by instr) s (f s.thread)
-    → option_and_then value_read_in (slice_get (done_by t (cut_run test f run)) p) ≡ Some v
+    → option_and_then value_read_by (slice_get (done_by t (cut_run test f run)) p) ≡ Some v
 cut_named test n f run t p v instr s k one e =
     let m = named_stands test (named_by instr) v s one in
     let P : ℕ → Type 0 = λ z. Among s (stores_of test z) in
@@ -355,7 +355,7 @@ cut_named test n f run t p v instr s k one e =
 cut_zero : (test : LitmusTest) (n : ℕ) (f : ℕ → ℕ) (run : List Event) (t p w : ℕ) (instr : Instr)
     → Taken test n f run t p instr → OneThread test (named_by instr) w → (t ≡ w → ⊥)
     → logged_in test run t (column_of test t p) (f t) ≤ store_count test (named_by instr) * f w
-    → option_and_then value_read_in (slice_get (done_by t (cut_run test f run)) p) ≡ Some 0
+    → option_and_then value_read_by (slice_get (done_by t (cut_run test f run)) p) ≡ Some 0
 cut_zero test n f run t p w instr k one ne low =
     let v = logged_in test run t (column_of test t p) (f t) in
     let P : ℕ → Type 0 = λ z. OneThread test z w in
@@ -372,7 +372,7 @@ value_within : (test : LitmusTest) (n : ℕ) (run : List Event) (frame : List �
     → stores_written test (named_by instr) v ≡ ss
     → kind_of_value t (column_of test t p) (stores_of test (named_by instr)) ss ≡ Ok kind
     → HoldsWithin test run frame kind
-    → option_and_then value_read_in (slice_get (done_by t (cut_run test (iteration_in frame) run)) p) ≡ Some v
+    → option_and_then value_read_by (slice_get (done_by t (cut_run test (iteration_in frame) run)) p) ≡ Some v
 value_within test n run frame t p v instr kind [] h a k tells z e q holds = cc
 value_within test n run frame t p v instr kind (s ∷ other ∷ ss) h a k tells z e q holds = cc
 value_within test n run frame t p v instr kind (s ∷ []) h a k tells z e q holds =
@@ -383,7 +383,7 @@ value_within test n run frame t p v instr kind (s ∷ []) h a k tells z e q hold
 
     go : (b : Bool) → cond {A = Result AtomKind ProfileKind} b (Ok (Exact t (column_of test t p) s.thread s.place))
         (Ok (Rf t (column_of test t p) s.thread s.place)) ≡ Ok kind
-        → option_and_then value_read_in (slice_get (done_by t (cut_run test (iteration_in frame) run)) p) ≡ Some v
+        → option_and_then value_read_by (slice_get (done_by t (cut_run test (iteration_in frame) run)) p) ≡ Some v
     go true m =
         let same : Exact t (column_of test t p) s.thread s.place ≡ kind = cc in
         cut_named test n (iteration_in frame) run t p v instr s k one
@@ -398,7 +398,7 @@ zero_within : (test : LitmusTest) (n : ℕ) (run : List Event) (frame : List ℕ
     (kind : AtomKind) (ss : List Site) → InFrame test n run frame → IsReader test t (column_of test t p) p instr
     → Taken test n (iteration_in frame) run t p instr → Tells test kind
     → kind_of_zero t (column_of test t p) ss ≡ Ok kind → HoldsWithin test run frame kind
-    → option_and_then value_read_in (slice_get (done_by t (cut_run test (iteration_in frame) run)) p) ≡ Some 0
+    → option_and_then value_read_by (slice_get (done_by t (cut_run test (iteration_in frame) run)) p) ≡ Some 0
 zero_within test n run frame t p instr kind [] h a k tells q holds = cc
 zero_within test n run frame t p instr kind (s ∷ ss) h a k tells q holds =
     let column = column_of test t p in
@@ -426,7 +426,7 @@ at_within : (test : LitmusTest) (n : ℕ) (run : List Event) (frame : List ℕ) 
     (cond (nat_lt 0 (length (stores_written test (named_by instr) 0))) (Err ZeroStored)
     (kind_of_zero t (column_of test t p) (stores_of test (named_by instr)))) ≡ Ok kind
     → HoldsWithin test run frame kind
-    → option_and_then value_read_in (slice_get (done_by t (cut_run test (iteration_in frame) run)) p) ≡ Some v
+    → option_and_then value_read_by (slice_get (done_by t (cut_run test (iteration_in frame) run)) p) ≡ Some v
 at_within test n run frame t p v instr kind false z h a k tells q holds =
     value_within test n run frame t p v instr kind (stores_written test (named_by instr) v) h a k tells z refl q holds
 at_within test n run frame t p v instr kind true z h a k tells q holds =

@@ -17,7 +17,7 @@ use Rattle.tso_machine.proofs.ReadEvents.{drains_unread}
 use Rattle.profile_check.proofs.KindLemmas.{IsReader, named_by}
 use Rattle.outcome_conv.specs.Conds.{logged_in}
 use Rattle.outcome_conv.proofs.Agree.{thread_below}
-use Rattle.litmus_outcomes.specs.Outcome.{done_by, value_of}
+use Rattle.litmus_outcomes.specs.Outcome.{done_by, value_read_by}
 use Rattle.litmus_outcomes.proofs.Values.{told}
 use Rattle.litmus_outcomes.proofs.Images.{action_as, action_of, at_place_of, done_is, steps_of}
 
@@ -79,7 +79,7 @@ deed_at t q (suc p) (b ∷ body) (f ∷ es) a h e r =
     }
 
 value_as : (test : LitmusTest) (e : Event) (k : Kind)
-    → value_of (action_as k test e) ≡ option_map (told test (event_location test e)) (value_read_as k)
+    → value_read_by (action_as k test e) ≡ option_map (told test (event_location test e)) (value_read_as k)
 value_as test e Push = refl
 value_as test e Drain = refl
 value_as test e (Read v) = refl
@@ -88,7 +88,7 @@ value_as test e (Exchanged v) = refl
 
 pub value_is : (test : LitmusTest) (run : List Event) (t column place : ℕ) (action : Instr) → IsRunOf test 1 run
     → IsReader test t column place action
-    → option_and_then value_of (slice_get (done_by t (steps_of test run)) place)
+    → option_and_then value_read_by (slice_get (done_by t (steps_of test run)) place)
     ≡ Some (told test (named_by action) (logged_in test run t column 0))
 value_is test run t column place action r a =
     let body = body_of test t in
@@ -102,9 +102,9 @@ value_is test run t column place action r a =
     ap (λ z. z + column) (zero-mul (columns_of test t)) ∙ zero-add column ∙ a.column_is in
     let value : logged_in test run t column 0 ≡ d.value =
     (λ i. slice_index (sym (drains_unread (part_of t run)) i) (column_is i)) ∙ d.logged in
-    ap (λ z. option_and_then value_of (slice_get z place)) (done_is test t run)
-    ∙ ap (option_and_then value_of) (slice_get-map (action_of test) (deeds t run) place)
-    ∙ ap (λ o. option_and_then value_of (option_map (action_of test) o)) d.at
+    ap (λ z. option_and_then value_read_by (slice_get z place)) (done_is test t run)
+    ∙ ap (option_and_then value_read_by) (slice_get-map (action_of test) (deeds t run) place)
+    ∙ ap (λ o. option_and_then value_read_by (option_map (action_of test) o)) d.at
     ∙ value_as test e e.kind
     ∙ ap (option_map (told test (event_location test e))) d.reads
     ∙ (λ i. Some (told test (loc i) (sym value i)))

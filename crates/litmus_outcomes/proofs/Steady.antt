@@ -9,7 +9,6 @@ use Rattle.seq_conv.specs.Sequence.{in_iteration, stores_of}
 use Rattle.seq_conv.specs.declared.site.Origin.{Origin}
 use Rattle.seq_conv.specs.declared.site.Site.{Site}
 use Rattle.perp_base.proofs.Lists.{Among, each_among, each_from_among}
-use Rattle.profile_check.specs.Profile.{CheckedTest, IsChecked}
 use Rattle.profile_check.specs.declared.kind.AtomKind.{AtomKind}
 use Rattle.profile_check.specs.declared.kind.AtomKind.TheVariants.{Rf, Fr, Exact}
 use Rattle.profile_check.proofs.KindLemmas.{Tells, TellsRf, kind_tells, named_by}
@@ -25,7 +24,7 @@ use Rattle.decision.specs.Shown.{is_ordered, is_own_outside}
 use Rattle.decision.proofs.Finish.{all_from}
 use Rattle.decision.proofs.HiddenReads.{own_read}
 use Rattle.decision.proofs.OwnReads.{own_order}
-use Rattle.litmus_outcomes.specs.Laws.{OrderedIsSteady, SeenIsAllowed, SteadyHoldsWithin}
+use Rattle.litmus_outcomes.specs.Laws.{OrderedIsSteady, SeenIsAllowed, SteadyHitsAreOutcomes, SteadyHoldsWithin}
 use Rattle.litmus_outcomes.specs.Outcome.{IsPossible}
 use Rattle.litmus_outcomes.specs.Within.{IsSteady, holds_within, is_exactly, is_steady}
 use Rattle.litmus_outcomes.proofs.Framing.{frames_within_are_outcomes_lem}
@@ -113,10 +112,8 @@ ordered_is_steady_lem checked c h o =
 
 -- what is seen
 
-pub steady_outcome : (checked : CheckedTest) (n c : ℕ) (run : List Event) (frame : List ℕ) → IsChecked checked
-    → IsSteady checked c → IsRunOf checked.test n run → IsFrame checked.test n frame
-    → list_all (holds_in checked.test run frame) (kinds_in checked c) ≡ true → IsPossible checked.test c
-steady_outcome checked n c run frame h steady r f holds =
+pub steady_hits_are_outcomes_lem : SteadyHitsAreOutcomes
+steady_hits_are_outcomes_lem checked n c run frame h steady r f holds =
     let test = checked.test in
     let kinds = kinds_in checked c in
     let tells = kinds_tell checked c h in
@@ -135,7 +132,7 @@ seen_is_allowed_lem checked n run h d r some =
   where
     go : (k : HitAt checked n run) → IsSteady checked k.conjunction ⊎ NeverHolds checked k.conjunction
         → IsPossible checked.test k.conjunction
-    go k (inl steady) = steady_outcome checked n k.conjunction run k.frame h steady r k.is_frame k.holds
+    go k (inl steady) = steady_hits_are_outcomes_lem checked n k.conjunction run k.frame h steady r k.is_frame k.holds
     go k (inr never) =
         absurd (both_ways (list_all (holds_in checked.test run k.frame) (kinds_in checked k.conjunction))
         (never n run k.frame r k.is_frame) k.holds)

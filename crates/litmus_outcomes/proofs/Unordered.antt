@@ -3,7 +3,7 @@
 -- store of a later iteration too.
 use Rattle.std.proofs.Common.{◌≡◌, ℕ, zero, suc, ◌<◌, ◌≤◌, true, false, IfSome, Some, List, [], ◌∷◌, length, refl, slice_get, option_and_then, arith}
 use Rattle.std.proofs.lemmas.List.Elements.{All-from_recursion}
-use Rattle.std.specs.List.{AllZip, list_all}
+use Rattle.std.specs.List.{AllZip}
 use Rattle.x86_subset.specs.Instr.{location_of}
 use Rattle.x86_subset.specs.Registers.{AreHeld, IsHeld}
 use Rattle.x86_subset.specs.Shape.{IsLocated}
@@ -23,10 +23,10 @@ use Rattle.profile_check.specs.Kinds.{AreKinds}
 use Rattle.profile_check.specs.Profile.{IsChecked}
 use Rattle.profile_check.specs.declared.kind.AtomKind.{AtomKind}
 use Rattle.profile_check.specs.declared.kind.AtomKind.TheVariants.{Rf}
-use Rattle.outcome_conv.specs.Holds.{holds_in}
+use Rattle.outcome_conv.specs.Hits.{is_hit}
 use Rattle.litmus_outcomes.specs.Laws.{OrderIsNeeded}
 use Rattle.litmus_outcomes.specs.Machine.{Action, Writes, Drains, Reads, Fences, Exchanges, Step, start}
-use Rattle.litmus_outcomes.specs.Outcome.{Does, HasOutcome, IsExecution, IsPossible, done_by, value_of}
+use Rattle.litmus_outcomes.specs.Outcome.{Does, HasOutcome, IsExecution, IsPossible, done_by, value_read_by}
 use Rattle.litmus_outcomes.proofs.Exploring.{may_end, no_end_from}
 
 abbrev pub code : List Instr → Held → Held → Code
@@ -70,8 +70,8 @@ twice =
 pub twice_is : IsRunOf readers 2 twice
 twice_is = run_by readers 2 twice assumption
 
-pub twice_holds : list_all (holds_in readers twice (0 ∷ 0 ∷ 0 ∷ 0 ∷ [])) readers_kinds ≡ true
-twice_holds = refl
+pub twice_hits : is_hit readers readers_kinds twice (0 ∷ 0 ∷ 0 ∷ 0 ∷ []) ≡ true
+twice_hits = refl
 
 -- what each thread does where the outcome is had
 abbrev wanted : ℕ → List Action
@@ -87,13 +87,13 @@ no_end = refl
 -- so no execution has the outcome
 
 reads_first : (x y v : ℕ) (r q : Reg) (done : List Action) (i : ℕ)
-    → AllZip Does (instr.Load r x ∷ instr.Load q y ∷ []) done → option_and_then value_of (slice_get done 0) ≡ Some v
-    → option_and_then value_of (slice_get done 1) ≡ Some i → done ≡ Reads x v ∷ Reads y i ∷ []
+    → AllZip Does (instr.Load r x ∷ instr.Load q y ∷ []) done → option_and_then value_read_by (slice_get done 0) ≡ Some v
+    → option_and_then value_read_by (slice_get done 1) ≡ Some i → done ≡ Reads x v ∷ Reads y i ∷ []
 reads_first x y v r q [] i z e f = absurd z
 reads_first x y v r q (a ∷ []) i z e f = absurd (z.1)
 reads_first x y v r q (a ∷ b ∷ []) i z e f = λ j. read_is r x v a z.0 e j ∷ read_is q y i b z.1.0 f j ∷ []
   where
-    read_is : (r : Reg) (x v : ℕ) (a : Action) → Does (instr.Load r x) a → value_of a ≡ Some v → a ≡ Reads x v
+    read_is : (r : Reg) (x v : ℕ) (a : Action) → Does (instr.Load r x) a → value_read_by a ≡ Some v → a ≡ Reads x v
     read_is r x v (Writes y w) d e = absurd d
     read_is r x v (Drains y w) d e = absurd d
     read_is r x v (Reads y w) d e = let k : w ≡ v = cc in λ j. Reads (d j) (k j)
@@ -197,12 +197,13 @@ order_is_needed_lem = (
   twice,
   0 ∷ 0 ∷ 0 ∷ 0 ∷ [],
   readers_checked,
+  refl,
   twice_is,
   record {
     one_each = refl;
     below = All-from_recursion (λ i. i < 2) (0 ∷ 0 ∷ 0 ∷ 0 ∷ [])
         (omega arith, (omega arith, (omega arith, (omega arith, tt))));
   },
-  twice_holds,
+  twice_hits,
   readers_impossible,
 )

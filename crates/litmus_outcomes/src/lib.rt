@@ -6,16 +6,20 @@
 //! Neither knows of sequences, sources or frames.
 //!
 //! `laws` has one public function for each law of `specs/Laws`. Runs of one iteration and executions have the same
-//! outcomes (`once_is_the_test`). So a frame at which an ordered conjunction holds is an outcome of the test
-//! (`hits_are_outcomes`), which is false of other conjunctions (`order_is_needed`); each outcome can be counted
-//! (`outcomes_are_countable`), and what never holds is none (`never_is_impossible`).
+//! outcomes (`once_is_the_test`).
 //!
 //! `specs/Within` says when an atom holds within a frame: an rf atom then takes no later iteration. A run that is cut
-//! down to a frame is an execution of the test, so what holds within it is an outcome, ordered or not
+//! down to a frame is an execution of the test, so what holds within it is an outcome, whatever the conjunction
 //! (`frames_within_are_outcomes`), and each outcome is had within a frame (`outcomes_are_frames_within`). The logs tell
-//! it (`conditions_agree_within`). A conjunction is steady if its rf atoms name stores of their reader's own thread: it
-//! holds at a frame where it holds within it (`steady_holds_within`, `ordered_is_steady`). So where each conjunction is
-//! steady or never holds, a hit tells that x86-TSO allows the condition (`seen_is_allowed`).
+//! it (`conditions_agree_within`).
+//!
+//! A conjunction is steady if its rf atoms name stores of their reader's own thread. Where it holds at a frame, it holds
+//! within it (`steady_holds_within`), and so it is an outcome of the test (`steady_hits_are_outcomes`). An ordered
+//! conjunction is steady (`ordered_is_steady`, `hits_are_outcomes`). Of others this is false (`order_is_needed`).
+//!
+//! So where each conjunction is steady or never holds, a hit tells that x86-TSO allows the condition
+//! (`seen_is_allowed`). Each outcome can be counted (`outcomes_are_countable`), and what never holds is none
+//! (`never_is_impossible`).
 #![tactic(auto)]
 
 mod laws;
@@ -23,5 +27,5 @@ mod laws;
 pub use laws::{
     conditions_agree_within, frames_within_are_outcomes, hits_are_outcomes, never_is_impossible,
     once_is_the_test, order_is_needed, ordered_is_steady, outcomes_are_countable,
-    outcomes_are_frames_within, seen_is_allowed, steady_holds_within,
+    outcomes_are_frames_within, seen_is_allowed, steady_hits_are_outcomes, steady_holds_within,
 };

@@ -22,7 +22,7 @@ use Rattle.perple_core.proofs.Accepting.{none_due_has_kinds}
 use Rattle.forbidden_runs.specs.Laws.{AsksFor, read_test}
 use Rattle.forbidden_runs.specs.Texts.{zero_text}
 use Rattle.forbidden_runs.proofs.Reports.{none_seen}
-use Rattle.litmus_outcomes.specs.Laws.{AreDecided}
+use Rattle.litmus_outcomes.specs.Laws.{AreSteadyOrNever}
 use Rattle.litmus_outcomes.specs.Outcome.{IsAllowed}
 use Rattle.litmus_outcomes.proofs.Steady.{seen_is_allowed_lem}
 use Rattle.reported_outcomes.specs.Laws.{PerpleReportsWhatIsAllowed, RunsReportWhatIsAllowed}
@@ -48,7 +48,7 @@ told_by test job answer text e (inl k) = inl (e ∙ k)
 told_by test job answer text e (inr k) = inr k
 
 run_is : (job : Job) (test : LitmusTest) (done : Closed) (answer : List ℕ) → IsChecked (read_test test)
-    → AreDecided (read_test test) → IsText (Run job) test done answer → Told test job answer
+    → AreSteadyOrNever (read_test test) → IsText (Run job) test done answer → Told test job answer
 run_is job test done answer is decided right =
     let run = right.some_run.run in
     let fits : Fits test job.options done.lists run = right.some_run.fits in
@@ -57,7 +57,7 @@ run_is job test done answer is decided right =
     (fitting_run test job.options done.lists run fits))
 
 replay_is : (job : Job) (test : LitmusTest) (done : Closed) (answer : List ℕ) → IsChecked (read_test test)
-    → AreDecided (read_test test) → IsText (Replay job) test done answer → Told test job answer
+    → AreSteadyOrNever (read_test test) → IsText (Replay job) test done answer → Told test job answer
 replay_is job test done answer is decided right =
     let run = right.1.some_run.0 in
     let scheduled : IsScheduled test job.options (schedule_of job) run = right.1.some_run.1 in

@@ -5,9 +5,6 @@ use Rattle.x86_subset.specs.Test.{LitmusTest}
 use Rattle.profile_check.specs.Kinds.{AreKinds}
 use Rattle.profile_check.specs.Profile.{CheckedTest, IsChecked}
 use Rattle.profile_check.specs.declared.kind.AtomKind.{AtomKind}
-use Rattle.outcome_conv.specs.Hits.{hits_of}
-use Rattle.tso_machine.specs.Event.{Event}
-use Rattle.tso_machine.specs.Run.{IsRunOf}
 use Rattle.tso_words.specs.Seats.{Ended as Closed}
 use Rattle.run_text.specs.Sections.{Split}
 use Rattle.litmus_reader.specs.Answer.{Accepted}
@@ -30,6 +27,7 @@ use Rattle.tool_core.proofs.Endings.{whole_test}
 use Rattle.perple_core.proofs.Accepting.{kinds_are}
 use Rattle.forbidden_runs.specs.Forbidden.{IsForbidden}
 use Rattle.forbidden_runs.specs.Laws.{read_test}
+use Rattle.litmus_outcomes.specs.Laws.{SomeRunHits}
 use Rattle.litmus_outcomes.specs.Outcome.{IsAllowed}
 use Rattle.litmus_outcomes.proofs.Possible.{outcomes_are_countable_lem}
 use Rattle.reported_outcomes.specs.Told.{ForbiddenIsImpossible, HasTold, ShownIsAllowed}
@@ -69,10 +67,6 @@ apart : (a b : ℕ) (xs ys : List ℕ) → a < b → xs ≡ ys → first xs ≡ 
 apart a b xs ys l e f g = let same : a ≡ b = sym f ∙ ap first e ∙ g in omega arith
 
 -- ---- what was told is the right text for the test
-
--- some legal run of so many iterations has a hit
-abbrev Counts : LitmusTest → List AtomKind → ℕ → Type 0
-Counts test kinds n = (legal : List Event) × IsRunOf test n legal × (hits_of test kinds n legal ≡ [] → ⊥)
 
 record Right (command : Command) (test : LitmusTest) (told : List ℕ) : Type 0 where
   parts : Split
@@ -132,7 +126,8 @@ shown_is_allowed_lem test rest h =
     let checked : CheckedTest = record { test = test; kinds = said.kinds } in
     let allowed = shown_on checked rest said.is in (
       allowed,
-      λ n some. subst (λ (kinds : List AtomKind). Counts test kinds n) (sym (kinds_are test said.kinds said.are))
+      λ n some. subst (λ (kinds : List AtomKind). SomeRunHits (record { test = test; kinds = kinds }) n)
+          (sym (kinds_are test said.kinds said.are))
           (outcomes_are_countable_lem checked n allowed.0 (checked_of test said.kinds h.text h.reading said.are)
           allowed.1 allowed.2 some),
     )

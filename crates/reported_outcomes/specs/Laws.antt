@@ -14,7 +14,7 @@ use Rattle.perple_core.specs.Texts.{text_of}
 use Rattle.perple_core.specs.Top.{WritesWhole}
 use Rattle.forbidden_runs.specs.Laws.{IsCall, read_test}
 use Rattle.forbidden_runs.specs.Texts.{zero_text}
-use Rattle.litmus_outcomes.specs.Laws.{AreDecided}
+use Rattle.litmus_outcomes.specs.Laws.{AreSteadyOrNever}
 use Rattle.litmus_outcomes.specs.Outcome.{IsAllowed}
 
 -- law: where each conjunction is steady or never holds, the text of each run is the report that nothing was seen, or
@@ -23,7 +23,7 @@ abbrev pub RunsReportWhatIsAllowed : Type 0
 RunsReportWhatIsAllowed =
     (checked : CheckedTest) (job : Job) (run : List Event)
     → IsChecked checked
-    → AreDecided checked
+    → AreSteadyOrNever checked
     → IsRunOf checked.test job.options.iterations run
     → (text_of checked.test job run ≡ zero_text checked.test job) ⊎ IsAllowed checked.test
 
@@ -35,6 +35,6 @@ PerpleReportsWhatIsAllowed =
     (job : Job) (before : List ℕ) (test : LitmusTest)
     → WritesWhole words old done out_old out_new status
     → IsCall words old out_old job before test
-    → AreDecided (read_test test)
+    → AreSteadyOrNever (read_test test)
     → status ≡ Whole
     → (out_new.bytes ≡ Some (before ++ zero_text test job)) ⊎ IsAllowed test

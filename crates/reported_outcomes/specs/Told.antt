@@ -1,10 +1,7 @@
 -- Laws: what `show` and `verdict` print of a test is so of the test as it is written. The executions are those of
 -- x86-TSO (Sewell, Sarkar, Owens, Zappa Nardelli and Myreen, CACM 2010); the texts are this project's own.
-use Rattle.std.specs.Prelude.{◌≡◌, ◌⊎◌, ℕ, ◌≤◌, List, [], ◌++◌, Some, codes}
+use Rattle.std.specs.Prelude.{◌≡◌, ◌⊎◌, ℕ, ◌≤◌, List, ◌++◌, Some, codes}
 use Rattle.x86_subset.specs.Test.{LitmusTest}
-use Rattle.tso_machine.specs.Event.{Event}
-use Rattle.tso_machine.specs.Run.{IsRunOf}
-use Rattle.outcome_conv.specs.Hits.{hits_of}
 use Rattle.litmus_reader.specs.Answer.{Accepted}
 use Rattle.litmus_reader.specs.Reading.{Reads}
 use Rattle.tso_words.specs.Seats.{Ended as Closed}
@@ -14,9 +11,9 @@ use Rattle.tool_core.specs.Top.{Told, WritesWhole}
 use Rattle.tool_core.specs.declared.words.Command.{Command}
 use Rattle.tool_core.specs.declared.words.Command.TheVariants.{Show, Verdict}
 use Rattle.tool_core.specs.declared.status.ToolStatus.TheVariants.{Core}
-use Rattle.perple_core.specs.Texts.{kinds_of}
 use Rattle.forbidden_runs.specs.Forbidden.{IsForbidden}
 use Rattle.forbidden_runs.specs.Laws.{read_test}
+use Rattle.litmus_outcomes.specs.Laws.{SomeRunHits}
 use Rattle.litmus_outcomes.specs.Outcome.{IsAllowed}
 
 -- The words of a call of `perple_tool` are those of this command, `out` has these bytes before it, and the source the
@@ -35,17 +32,13 @@ pub record HasTold (command : Command) (test : LitmusTest) (told : List ℕ) : T
   pub whole : WritesWhole words old done out_old out_new (Core Whole)
   pub added : out_new.bytes ≡ Some (before ++ told)
 
--- some legal run of this many iterations of the test's loops has a hit
-abbrev pub IsCountable : LitmusTest → ℕ → Type 0
-IsCountable test n = (run : List Event) × IsRunOf test n run × (hits_of test (kinds_of test) n run ≡ [] → ⊥)
-
 -- law: where `show` writes a run, x86-TSO allows what the condition asks for, and it can be counted in a run of any
 -- number of iterations
 abbrev pub ShownIsAllowed : Type 0
 ShownIsAllowed =
     (test : LitmusTest) (rest : List ℕ)
     → HasTold Show test (codes "%events 1\n" ++ rest)
-    → IsAllowed test × ((n : ℕ) → 1 ≤ n → IsCountable test n)
+    → IsAllowed test × ((n : ℕ) → 1 ≤ n → SomeRunHits (read_test test) n)
 
 -- law: where `show` or `verdict` writes Forbidden, x86-TSO does not allow it, and no conjunction holds at any frame of
 -- any run. So `run` and `replay` of the text report that nothing was seen (`perple_reports_nothing_forbidden` of

@@ -1,4 +1,5 @@
--- What the command faithful writes: that each atom is steady, or the first that is not. This project's own.
+-- What the command faithful writes: that each atom of the test is steady, or which is the first that is loose
+-- (frames_within/specs/Loose). This project's own.
 use Rattle.std.specs.Prelude.{◌≡◌, ℕ, ◌+◌, List, ◌++◌, codes, decimal}
 use Rattle.x86_subset.specs.Test.{LitmusTest}
 use Rattle.profile_check.specs.Kinds.{AreKinds}
@@ -14,12 +15,12 @@ faithful_line = codes "Faithful\n"
 unfoldable pub loose_line : ℕ → ℕ → List ℕ
 loose_line c atom = codes "Loose " ++ decimal c ++ codes " " ++ decimal atom ++ newline
 
--- The text tells that the test, whose atoms have these kinds, is faithful; or its first loose atom, which stands in the
--- first conjunction that has one.
+-- The text tells that the test is faithful, or it tells its first loose atom: i counts from 0, the text from 1.
 pub data IsFaithOn (checked : CheckedTest) (text : List ℕ) : Type 0 where
   faithful : IsFaithful checked → text ≡ faithful_line → IsFaithOn checked text
   loose : (c i : ℕ) → IsFirstLoose checked c i → text ≡ loose_line c (i + 1) → IsFaithOn checked text
 
+-- the text is right for a test each of whose atoms has a kind
 pub record IsFaithText (test : LitmusTest) (text : List ℕ) : Type 0 where
   pub kinds : List AtomKind
   pub are : AreKinds test kinds

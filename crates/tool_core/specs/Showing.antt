@@ -31,7 +31,7 @@ pub record IsShownBy (checked : CheckedTest) (c : ℕ) (events : List RunEvent) 
   pub shows : Shows checked c (map event_of events)
   pub possible : IsPossible checked.test c
 
--- each of the first so many conjunctions that is ordered has a cycle of edges
+-- of the first so many conjunctions, each that is ordered has a cycle of edges
 abbrev pub NoneIsShown : CheckedTest → ℕ → Type 0
 NoneIsShown checked count = (c : ℕ) → c < count → IsOrdered checked c → HasCycle checked c
 
@@ -66,7 +66,7 @@ pub record IsFirstUndecided (checked : CheckedTest) (c : ℕ) : Type 0 where
   pub is_open : IsOpen checked c
   pub earlier : (b : ℕ) → b < c → (reason : Reason) × IsReason checked b reason
 
--- what is said where no run is shown is so
+-- what is said in place of a run is true of the test
 abbrev pub IsUnshown : CheckedTest → Unshown → Type 0
 IsUnshown checked (Forbidden reasons) = AreReasons checked (length checked.test.ends) reasons.items
 IsUnshown checked (Undecided c) = IsFirstUndecided checked c
@@ -104,6 +104,7 @@ pub data IsShowingOn (checked : CheckedTest) (text : List ℕ) : Type 0 where
   undecided : (c : ℕ) → IsFirstUndecided checked c → NoneIsShown checked (length checked.test.ends)
       → text ≡ number_line (codes "Undecided") c → IsShowingOn checked text
 
+-- the text is right for a test each of whose atoms has a kind
 pub record IsShowingText (test : LitmusTest) (text : List ℕ) : Type 0 where
   pub kinds : List AtomKind
   pub are : AreKinds test kinds

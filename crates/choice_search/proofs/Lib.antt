@@ -1,0 +1,4 @@
+pub mod Finds
+pub mod Walks
+pub mod TakenSides
+pub mod Trees

@@ -1,0 +1,17 @@
+pub mod Draws
+pub mod Making
+pub mod Drawing
+pub mod Named
+pub mod Showing
+pub mod Deciding
+pub mod Places
+pub mod Turns
+pub mod Leading
+pub mod Forbidding
+pub mod Sourced
+pub mod Conjoined
+pub mod Classical
+pub mod Ordered
+pub mod Examples
+pub mod KeptMoments
+pub mod Moments

@@ -1,0 +1,5 @@
+pub mod Edges
+pub mod Trees
+pub mod Sources
+pub mod Laws
+pub mod Moments

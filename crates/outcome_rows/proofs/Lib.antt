@@ -1,0 +1,10 @@
+pub mod Valued
+pub mod Fronts
+pub mod Members
+pub mod Rising
+pub mod Listed
+pub mod Told
+pub mod Loops
+pub mod Counting
+pub mod Conditioned
+pub mod Limited

@@ -1,0 +1,4 @@
+pub mod Numbers
+pub mod Graphs
+pub mod Adding
+pub mod Fronted

@@ -1,0 +1,26 @@
+//! Is the front part of a row of a litmus test possible?
+//!
+//! `decide_readings` decides readings: reads with their sources (`once`). It numbers the places of the test, 16 to a
+//! thread, and hands the edges and choices that the readings ask for to `choice_search`. It answers in the test's own
+//! words (its clause, `IsDecision` in `specs/Decided`): a run of one iteration has all sources; none has, since the
+//! source of this reading is hidden, or since this tree of cases refutes them; or all the steps were taken.
+//!
+//! `decide_front` goes over all lists of sources that have the values of the front part of a row. It answers whether
+//! an execution of the test as it is written ends with these values, or that all the steps were taken (its clause,
+//! `IsFront` in `specs/Fronts`). It asks that each of the registers holds a read at the end, and no constant, which
+//! `hold_reads` tells. A list of sources takes one step more than its search, so `most` bounds the whole walk.
+#![tactic(auto)]
+
+mod decide;
+mod edges;
+mod front;
+mod graph;
+mod kept;
+mod reading;
+
+pub use decide::{Answer, Decision, decide_readings};
+pub use front::{Front, FrontAnswer, Register, decide_front, hold_reads};
+pub use reading::Reading;
+
+#[cfg(test)]
+mod tests;
