@@ -1,4 +1,4 @@
-# Completion for bash of perple and perple_tool. They read a test on standard input, so a file is completed after a `<` alone.
+# Completion for bash of perple, perple_tool, perple-explain and perple-suite. The first two read a test on standard input, so a file is completed after a `<` alone.
 
 _perple_numbers() {
     case $1 in
@@ -56,5 +56,40 @@ _perple_tool() {
     esac
 }
 
+# the test, two hyphens, and then what the program would be offered that has the command
+_perple_explain() {
+    local word=${COMP_WORDS[COMP_CWORD]} command=${COMP_WORDS[3]-}
+    COMPREPLY=()
+    case $COMP_CWORD in
+    1)
+        compopt -o filenames 2>/dev/null
+        COMPREPLY=($(compgen -f -X '!*.litmus' -- "$word") $(compgen -d -- "$word"))
+        ;;
+    2) COMPREPLY=(--) ;;
+    3) COMPREPLY=($(compgen -W 'run replay convert demo judge order witness verdict show faithful skew' -- "$word")) ;;
+    *)
+        local COMP_WORDS=(perple "${COMP_WORDS[@]:3}") COMP_CWORD=$((COMP_CWORD - 2))
+        case $command in
+        run | replay | convert | demo) _perple ;;
+        *) _perple_tool ;;
+        esac
+        ;;
+    esac
+}
+
+_perple_suite() {
+    local word=${COMP_WORDS[COMP_CWORD]}
+    COMPREPLY=()
+    case $COMP_CWORD in
+    1)
+        compopt -o filenames 2>/dev/null
+        COMPREPLY=($(compgen -d -- "$word"))
+        ;;
+    2) COMPREPLY=($(compgen -W '--json --csv' -- "$word")) ;;
+    esac
+}
+
 complete -F _perple perple
 complete -F _perple_tool perple_tool
+complete -F _perple_explain perple-explain
+complete -F _perple_suite perple-suite

@@ -135,22 +135,27 @@ def judged(test, n, events):
     return "Legal %d\n" % len(events), state
 
 
+def enabled(state):
+    """The events that may come next."""
+    choices = []
+    for t, body in enumerate(state.test.bodies):
+        if state.buffers[t]:
+            choices.append((t, *state.buffers[t][0][2:], "drain", None))
+        if state.done[t] < state.n * len(body):
+            iteration, place = divmod(state.done[t], len(body))
+            kind = ACTS[body[place].kind]
+            reads = kind in ("read", "exchange")
+            event = (t, iteration, place, kind, state.due(t, body[place].loc) if reads else None)
+            if not state.fault(event):
+                choices.append(event)
+    return choices
+
+
 def some_run(rng, test, n):
     """A legal run in which what comes next is drawn."""
     state, events = State(test, n), []
     while not state.is_over():
-        choices = []
-        for t, body in enumerate(test.bodies):
-            if state.buffers[t]:
-                choices.append((t, *state.buffers[t][0][2:], "drain", None))
-            if state.done[t] < n * len(body):
-                iteration, place = divmod(state.done[t], len(body))
-                kind = ACTS[body[place].kind]
-                reads = kind in ("read", "exchange")
-                event = (t, iteration, place, kind, state.due(t, body[place].loc) if reads else None)
-                if not state.fault(event):
-                    choices.append(event)
-        event = rng.choice(choices)
+        event = rng.choice(enabled(state))
         state.do(event)
         events.append(event)
     return events, state.logs

@@ -13,7 +13,7 @@ import sys
 import textwrap
 
 TOP = os.path.dirname(os.path.dirname(os.path.realpath(__file__)))
-TOOLS = ["draw", "campaign", "suite", "explain", "page"]
+TOOLS = ["draw", "campaign", "suite", "explain", "page", "pages"]
 ABOUT = {
     "perple": "runs x86-TSO litmus tests as perpetual loops",
     "perple_tool": "judges and finds runs of x86-TSO litmus tests",
