@@ -72,7 +72,7 @@
       holdConstants(state, event.thread);
     }
     const words = data.sentences[sentence].replace(/\{(\w)\}/g, (_, key) => told[key]);
-    return { state, event: { ...event, value: told.v }, words };
+    return { state, event: { thread: event.thread, place: event.place, kind: event.kind, value: told.v }, words };
   }
 
   const first = () => ({ state: begun(), event: null, words: data.sentences.start });
