@@ -72,7 +72,7 @@
       holdConstants(state, event.thread);
     }
     const words = data.sentences[sentence].replace(/\{(\w)\}/g, (_, key) => told[key]);
-    return { state, event: { ...event, value: told.v }, words };
+    return { state, event: { thread: event.thread, place: event.place, kind: event.kind, value: told.v }, words };
   }
 
   const first = () => ({ state: begun(), event: null, words: data.sentences.start });
@@ -139,6 +139,7 @@
   }
 
   function take(event) {
+    stop();
     row = null;
     moments = moments.slice(0, at + 1);
     moments.push(after(moments[at].state, event));
@@ -169,16 +170,27 @@
     return `#${words}&step=${at}`;
   }
 
+  /** What the address asks for: a row or events, and a step. */
   function followAddress() {
     const words = new URLSearchParams(location.hash.slice(1));
     const number = Number(words.get("row"));
     if (words.has("events")) {
       row = null;
       moments = follow(words.get("events").split(".").filter(Boolean).map(long)).moments;
-    } else if (number >= 1 && number <= data.runs.length) choose(number);
-    else if (location.hash && $(location.hash.slice(1))) return;
-    else if (data.runs.length) choose(1);
-    go(words.has("step") ? Number(words.get("step")) || 0 : 0);
+    } else if (data.runs.length) choose(number >= 1 && number <= data.runs.length ? number : 1);
+    at = Math.max(0, Math.min(moments.length - 1, Number(words.get("step")) || 0));
+    show(isPlace());
+  }
+
+  /** Whether the address names a place of the page, as that of a cycle. */
+  const isPlace = () => location.hash.length > 1 && $(location.hash.slice(1)) !== null;
+
+  function remember() {
+    try {
+      history.replaceState(null, "", address());
+    } catch {
+      // some browsers refuse an address that changes too often; the next step tells it again
+    }
   }
 
   const cell = (words, changed, kind = "") => make("span", { className: `cell mono ${kind}${changed ? " changed" : ""}` }, words);
@@ -191,7 +203,7 @@
       $(`i${thread}-${place}`).className = name + (isNow && event.place === place ? " now" : "");
     });
     const registers = Object.entries(mine.registers).map(([name, value]) => cell(`${name}=${value}`, value !== before.threads[thread].registers[name]));
-    $(`registers${thread}`).replaceChildren(...registers);
+    $(`registers${thread}`).replaceChildren(...(registers.length ? registers : ["–"]));
     const pushed = isNow && event.kind === "push" ? mine.buffer.length - 1 : -1;
     const boxes = mine.buffer.map((write, number) => cell(`${data.locations[write.loc]}=${write.value}`, number === pushed, "write"));
     $(`buffer${thread}`).replaceChildren(...(boxes.length ? boxes : ["–"]));
@@ -220,16 +232,17 @@
 
   function choiceWords(choice) {
     const action = data.bodies[choice.thread][choice.place];
-    if (choice.kind === "drain") return action ? `${data.locations[action.loc]}=${action.value} leaves the buffer` : "drain";
-    return action ? data.instructions[choice.thread][choice.place] : "done";
+    return choice.kind === "drain" ? `${data.locations[action.loc]}=${action.value} to memory` : data.instructions[choice.thread][choice.place];
   }
 
   function showChoices(state) {
-    const [...given] = choices(state);
+    const given = choices(state);
     data.bodies.forEach((_, thread) => {
       const mine = given.filter((choice) => choice.thread === thread).map((choice) => {
-        const button = make("button", { className: "choice", disabled: choice.reason !== null, onclick: () => take(choice) }, choiceWords(choice));
-        return choice.reason === null ? [button] : [button, make("span", { className: "reason" }, choice.reason)];
+        const why = make("span", { className: "reason" }, choice.reason || "");
+        if (!data.bodies[thread][choice.place]) return [why];
+        const taken = make("button", { className: "choice", disabled: choice.reason !== null, onclick: () => take(choice) }, choiceWords(choice));
+        return choice.reason === null ? [taken] : [taken, why];
       });
       $(`choices${thread}`).replaceChildren(...mine.flat());
     });
@@ -247,7 +260,7 @@
     $("lines").value = ["%execution 1", ...moments.slice(1, at + 1).map((moment) => line(moment.event)), ""].join("\n");
   }
 
-  function show() {
+  function show(keepsAddress = false) {
     const { state, event, words } = moments[at];
     const before = at ? moments[at - 1].state : state;
     data.bodies.forEach((_, thread) => showThread(thread, state, before, event));
@@ -262,7 +275,8 @@
     for (const id of ["forward", "last"]) $(id).disabled = at === moments.length - 1;
     for (const each of document.querySelectorAll("#outcomes tr")) each.classList.toggle("chosen", row !== null && each.id === `row${row}`);
     document.body.classList.toggle("explores", row === null);
-    history.replaceState(null, "", address());
+    $("play").disabled = moments.length === 1;
+    if (!keepsAddress) remember();
   }
 
   // ---- what is there only with this program
@@ -271,12 +285,12 @@
 
   function addState() {
     const line = (name, title) => [
-      make("tr", {}, ...data.bodies.map(() => make("th", { scope: "row" }, title))),
+      make("tr", { className: name + "head" }, ...data.bodies.map(() => make("th", {}, title))),
       make("tr", { className: name }, ...data.bodies.map((_, thread) => make("td", { id: name + thread }))),
     ];
     const memory = [make("tr", {}, make("th", { colSpan: data.bodies.length }, "memory")),
       make("tr", {}, make("td", { id: "memory", colSpan: data.bodies.length }))];
-    const parts = [...line("registers", "registers"), ...line("buffer", "buffer, the oldest first"), ...memory, ...line("choices", "what may come next")];
+    const parts = [...line("registers", "registers"), ...line("buffer", "buffer"), ...memory, ...line("choices", "may come next")];
     $("program").append(make("tfoot", {}, ...parts));
   }
 
@@ -285,22 +299,32 @@
     slider.setAttribute("aria-label", "step of the run");
     const words = make("p", { id: "words" });
     words.setAttribute("aria-live", "polite");
-    $("controls").append(words,
+    $("controls").append(
       make("div", { className: "bar" }, button("first", "First", () => go(0)), button("back", "Back", () => go(at - 1)),
         button("forward", "Forward", () => go(at + 1)), button("last", "Last", () => go(moments.length - 1)), button("play", "Play", play),
-        slider, make("span", { id: "step" })),
-      make("div", { className: "bar" }, button("anew", "Explore from the beginning", () => { row = null; moments = [first()]; go(0); }),
-        button("random", "A random event", () => { const given = enabled(moments[at].state); take(given[Math.floor(Math.random() * given.length)]); })),
-      make("p", { className: "note" }, "Keys: left and right for a step, Home and End, space to play. Each event that may come next can be taken, from any step."));
+        slider, make("span", { id: "step" })), words);
+    $("machine").append(
+      make("div", { className: "bar" }, button("anew", "Explore from the beginning", anew), button("random", "A random event", random)),
+      make("p", { className: "note" }, "Keys: left and right for a step, Home and End, space to play. At each step any event that may come next can be taken."));
+  }
+
+  function anew() {
+    stop();
+    row = null;
+    moments = [first()];
+    go(0);
+  }
+
+  function random() {
+    const given = enabled(moments[at].state);
+    take(given[Math.floor(Math.random() * given.length)]);
   }
 
   function addRuns() {
     data.runs.forEach((_, number) => {
-      const chosen = button("", "step through", () => { stop(); choose(number + 1); show(); });
-      $(`row${number + 1}`).append(make("td", {}, chosen));
+      const chosen = make("button", { title: "step through a run", onclick: () => { stop(); choose(number + 1); show(); } }, String(number + 1));
+      $(`row${number + 1}`).querySelector("th").replaceChildren(chosen);
     });
-    const head = document.querySelector("#outcomes thead tr");
-    if (data.runs.length) head.append(make("th", { scope: "col" }, ""));
     if (!$("steps")) $("side").prepend(make("section", { id: "steps" }, make("h2"), make("ol", { id: "events" })));
   }
 
@@ -329,14 +353,13 @@
     press.preventDefault();
     KEYS[press.key]();
   });
-  addEventListener("hashchange", followAddress);
+  addEventListener("hashchange", () => isPlace() || followAddress());
 
   addState();
   addControls();
   addRuns();
   addLines();
   followAddress();
-  if (!$("words").textContent) go(0);
   window.page = { choices: () => choices(moments[at].state), events: () => moments.slice(1, at + 1).map((moment) => moment.event),
     state: () => moments[at].state, holds: () => conditionHolds(moments[at].state) };
 })();

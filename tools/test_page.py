@@ -186,19 +186,23 @@ def program_table(text):
 
 
 def outcome_table(page):
-    head = ["", *("%d:%s" % (thread, reg.upper()) for thread, reg in page.registers), "condition", ""]
+    head = ["", *("%d:%s" % (thread, reg.upper()) for thread, reg in page.registers), ""]
     rows = []
     for number, row in enumerate(page.rows, 1):
-        marks = element("span", "relaxed", class_="relaxed", title="not without store buffers") if row.is_relaxed else ""
+        marks = [mark("condition", "has the condition")] * row.has_condition + [mark("relaxed", "not without store buffers")] * row.is_relaxed
         cells = [element("th", str(number), scope="row")] + [element("td", str(value)) for value in row.values]
-        cells += [element("td", "yes" if row.has_condition else ""), element("td", marks)]
-        rows.append(element("tr", "".join(cells), id="row%d" % number, class_="has" if row.has_condition else "other"))
+        rows.append(element("tr", "".join(cells) + element("td", " ".join(marks)), id="row%d" % number,
+                            class_="has" if row.has_condition else "other"))
     for group, *_ in page.reasons:
         words = element("code", escape(condition_of(page.test.conjunctions()[group])))
         rows.append(element("tr", element("th", "") + element(
-            "td", '%s <a href="#why%d">forbidden</a>' % (words, group), colspan=len(page.registers) + 2), class_="never"))
-    return '<table id="outcomes"><thead><tr>%s</tr></thead>\n<tbody>%s</tbody></table>' % (
+            "td", '%s <a href="#why%d">%s</a>' % (words, group, mark("forbidden", "why")), colspan=len(page.registers) + 1), class_="never"))
+    return '<div class="rows"><table id="outcomes"><thead><tr>%s</tr></thead>\n<tbody>%s</tbody></table></div>' % (
         "".join(element("th", word, scope="col") for word in head), "\n".join(rows))
+
+
+def mark(word, title):
+    return element("span", word, class_="mark " + word, title=title)
 
 
 def notes(page):
@@ -301,11 +305,12 @@ def html(page, style=None, home=""):
     head = ('<meta charset="utf-8">\n<meta name="viewport" content="width=device-width, initial-scale=1">\n'
             "<title>%s</title>\n%s" % (escape(text.test.name), looks))
     quantified = " The test asks that it never happens." if text.test.negated else ""
-    title = '<header>%s<h1>%s</h1><p>%s</p></header>' % (home, escape(text.test.name), escape(text.comment))
-    verdict = '<p class="verdict"><b class="%s">%s</b> %s</p>' % (word.lower(), word, escape(said + quantified))
+    link = ' <a href="#why%d">Why?</a>' % page.reasons[0][0] if page.reasons else ""
+    verdict = '<p class="verdict"><b class="%s">%s.</b> %s%s</p>' % (word.lower(), word, escape(said + quantified), link)
+    title = '<header>%s<h1>%s</h1><p>%s</p>%s</header>' % (home, escape(text.test.name), escape(text.comment), verdict)
     asked = '<p id="condition"><code>%s</code></p>' % escape(text.condition)
-    left = '<section id="machine">%s\n%s\n<div id="controls"></div></section>' % (asked, program_table(text))
-    right = '<section id="table"><h2>Outcomes</h2>%s\n%s\n%s</section>' % (verdict, outcome_table(page), notes(page))
+    left = '<section id="machine">%s\n<div id="controls"></div>\n%s</section>' % (asked, program_table(text))
+    right = '<section id="table"><h2>Outcomes</h2>%s\n%s</section>' % (outcome_table(page), notes(page))
     reasons = "\n".join(why(page, *reason) for reason in page.reasons)
     return ('<!doctype html>\n<html lang="en">\n<head>\n%s\n</head>\n<body>\n%s\n<main>\n%s\n<div id="side">%s\n%s</div>\n</main>\n%s\n%s\n</body>\n</html>\n'
             % (head, title, left, right, run_list(page), reasons, script(page)))
