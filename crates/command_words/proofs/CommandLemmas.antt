@@ -1,7 +1,7 @@
 -- What clap answers, by the command that `run` and `replay` are read with.
 use Rattle.std.proofs.Common.{◌≡◌, ◌∙◌, ◌&&◌, inl, inr, ℕ, Bool, codes, true, false, refl, sym, ap, ap₂, subst, List, [], ◌∷◌, map, drop, is_some, Option, Some, None, ◌<◌, ◌+◌, ◌++◌, length, take, get_or, Bor}
 use Rattle.std.proofs.lemmas.List.{map-append, take_more}
-use Rattle.std.specs.Prelude.{option_and_then, count_by}
+use Rattle.std.specs.Prelude.{count_by}
 use Rattle.std.specs.List.{list_all, list_any}
 use Rattle.clap.specs.Faults.{fault_of, is_free_app, is_simple_and_free, level_fault, entered_fault, built_fault}
 use Rattle.clap.specs.Kinds.{HasKind, IsAmong, Kinds}
@@ -15,7 +15,7 @@ use Rattle.clap.proofs.WalkLemmas.{first_value-rows}
 use Rattle.clap.specs.declared.error.Error.{Error}
 use Rattle.clap.specs.declared.error.kind.ErrorKind.TheVariants as kind
 use Rattle.command_words.specs.Clap.{HasNoNumber, IsRead, app_for, count_arg, option_arg}
-use Rattle.command_words.specs.Words.{Given, Text, is_among, is_stray, value_given}
+use Rattle.command_words.specs.Words.{Given, Text, is_among, is_stray}
 use Rattle.command_words.proofs.Rows.{count_rule, first_for, option_rule, rules_for, shape_for}
 use Rattle.command_words.proofs.Turns.{stand}
 use Rattle.command_words.proofs.Parse.{Agrees, AllShaped, parse, reads, rest_fault, rest_rows}

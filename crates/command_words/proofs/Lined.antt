@@ -7,13 +7,12 @@ use Rattle.std.proofs.lemmas.Bool.{and_parts, eqb-true, false_from_ne_true}
 use Rattle.std.proofs.lemmas.Option.{option_and_then_some, none-some}
 use Rattle.command_words.specs.declared.job.Command.{Command}
 use Rattle.command_words.specs.declared.job.Command.TheVariants.{Run, Replay, Convert, Demo}
-use Rattle.command_words.specs.declared.job.StepOrder.{StepOrder}
-use Rattle.command_words.specs.declared.job.StepOrder.TheVariants.{Threads}
+use Rattle.perp_base.specs.declared.schedule.Schedule.{Schedule}
 use Rattle.perp_base.specs.declared.options.Options.{Options}
 use Rattle.command_words.specs.Job.{Asked, AskedCount}
 use Rattle.command_words.specs.declared.job.Count.{Count}
 use Rattle.command_words.specs.declared.job.Count.TheVariants.{Exhaustive}
-use Rattle.command_words.specs.Words.{Given, Text, command_of, convert_in, count_in, count_named, count_names, count_of, demo_in, given_by, given_in, is_among, is_given, is_hyphenated, is_once, is_option, job_in, job_of, name_in, number_of, number_within, options_of, or_else, order_of, replay_names, run_names, step_order_named, value_given, value_in, value_then, with_given}
+use Rattle.command_words.specs.Words.{Given, Text, command_of, convert_in, count_in, count_named, count_names, count_of, demo_in, given_by, given_in, is_among, is_given, is_hyphenated, is_once, is_option, job_in, job_of, name_in, number_of, number_within, options_of, or_else, order_of, replay_names, run_names, schedule_in, schedule_named, value_given, value_in, value_then, with_given}
 use Rattle.command_words.specs.Lines.{AsksFor, AsksForCount, CountsAreRead, Gives, LinesAreRead, LinesStandForOne, StandsFor, spelled, nothing, number, apart, joined, run, replay, convert, demo}
 use Rattle.command_words.proofs.Iterations.{no_number}
 use Rattle.command_words.proofs.Rows.{same_text, text_is}
@@ -302,9 +301,9 @@ no_number_of text h = rw (no_number text h) refl
 no_number_within : (least most : ℕ) (text : Text) → is_hyphenated text ≡ true → number_within least most text ≡ None
 no_number_within least most text h = rw (no_number text h) refl
 
-no_step_order : (text : Text) → is_hyphenated text ≡ true → step_order_named text ≡ None
-no_step_order [] h = absurd (true≢false (sym h))
-no_step_order (b ∷ bs) h =
+no_schedule : (text : Text) → is_hyphenated text ≡ true → schedule_named text ≡ None
+no_schedule [] h = absurd (true≢false (sym h))
+no_schedule (b ∷ bs) h =
     let not_turns : bytes_eq (b ∷ bs) (codes "turns") ≡ false = rw (eqb-true b 45 h) refl in
     rw (not_turns, no_number_of (b ∷ bs) h) refl
 
@@ -377,10 +376,11 @@ module _ (value_of : Text → Option Text) where
         count = plain_count way way_is;
       }))))
 
-  plain_step_order : (way : StepOrder) → or_else Threads step_order_named (value_of (codes "order")) ≡ Some way
+  plain_schedule : (way : Option Schedule) → schedule_in (value_of (codes "order")) ≡ Some way
       → IsPlainValue value_of (codes "order")
-  plain_step_order way e text is =
-      not_read step_order_named no_step_order text way (read_or Threads _ step_order_named _ text is e)
+  plain_schedule way e text is =
+      some_of _ (schedule_named text) way (subst (λ (p : Option Text). schedule_in p ≡ Some way) is e)
+      (λ schedule schedule_is _. not_read schedule_named no_schedule text schedule schedule_is)
 
   count_values : (job : AskedCount) → count_of value_of ≡ Some job → IsPlainValue value_of (codes "count") → Values
   count_values job e0 plain =
@@ -391,7 +391,7 @@ module _ (value_of : Text → Option Text) where
         run = run_values options options_are;
         cut_value = cut_value;
         cut_is = cut_is;
-        order = plain_step_order way way_is;
+        order = plain_schedule way way_is;
         count = plain;
       })))
 

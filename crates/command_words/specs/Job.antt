@@ -2,9 +2,9 @@
 use Rattle.std.specs.Prelude.{ℕ, ◌≤◌, Option}
 use Rattle.perp_base.specs.declared.limits.TheConstants.{MOST_PIECES}
 use Rattle.perp_base.specs.declared.options.Options.{Options}
+use Rattle.perp_base.specs.declared.schedule.Schedule.{Schedule}
 use Rattle.perp_base.specs.Options.{IsWithinLimits}
 use Rattle.command_words.specs.declared.job.Count.{Count}
-use Rattle.command_words.specs.declared.job.StepOrder.{StepOrder}
 
 -- a job, as contracts see it
 pub record Asked : Type 0 where
@@ -17,7 +17,7 @@ pub record Asked : Type 0 where
 pub record AskedCount : Type 0 where
   pub options : Options
   pub cut : ℕ
-  pub order : StepOrder
+  pub order : Option Schedule
 
 -- the limits of a job's numbers
 pub record IsWithin (options : Options) (cut : ℕ) : Type 0 where

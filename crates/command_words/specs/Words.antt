@@ -11,10 +11,10 @@ use Rattle.command_words.specs.declared.job.Command.{Command}
 use Rattle.command_words.specs.declared.job.Command.TheVariants.{Run, Replay, Convert, Demo}
 use Rattle.command_words.specs.declared.job.Count.{Count}
 use Rattle.command_words.specs.declared.job.Count.TheVariants.{Exhaustive, Heuristic, Both}
-use Rattle.command_words.specs.declared.job.StepOrder.{StepOrder}
-use Rattle.command_words.specs.declared.job.StepOrder.TheVariants.{Threads, Turns, Seeded}
 use Rattle.command_words.specs.Job.{Asked, AskedCount}
 use Rattle.perp_base.specs.declared.options.Options.{Options}
+use Rattle.perp_base.specs.declared.schedule.Schedule.{Schedule}
+use Rattle.perp_base.specs.declared.schedule.Schedule.TheVariants.{Turns, Seeded}
 
 abbrev pub Text : Type 0
 Text = List ℕ
@@ -156,9 +156,13 @@ job_of value_of =
     (or_else Exhaustive count_named (value_of (codes "count"))))
     (options_of value_of)
 
--- the order of steps that the value names: `turns`, or the seed of a schedule
-abbrev pub step_order_named : Text → Option StepOrder
-step_order_named text = if bytes_eq text (codes "turns") then Some Turns else option_map Seeded (number_of text)
+-- the schedule that the value names: `turns`, or the seed of one
+abbrev pub schedule_named : Text → Option Schedule
+schedule_named text = if bytes_eq text (codes "turns") then Some Turns else option_map Seeded (number_of text)
+
+abbrev pub schedule_in : Option Text → Option (Option Schedule)
+schedule_in None = Some None
+schedule_in (Some text) = option_map (λ schedule. Some schedule) (schedule_named text)
 
 -- the job of a count, by the value of each name
 abbrev pub count_of : (Text → Option Text) → Option AskedCount
@@ -166,7 +170,7 @@ count_of value_of =
     option_and_then (λ options.
     option_and_then (λ cut.
     option_map (λ order. record { options = options; cut = cut; order = order })
-    (or_else Threads step_order_named (value_of (codes "order"))))
+    (schedule_in (value_of (codes "order"))))
     (or_else 4096 (number_within 1 MOST_PIECES) (value_of (codes "cut"))))
     (options_of value_of)
 

@@ -1,5 +1,5 @@
 //! Jobs, and the commands that ask for them.
-use perp_base::Options;
+use perp_base::{Options, Schedule};
 use std::marker::Model;
 
 /// How the hits of a run are counted.
@@ -48,17 +48,6 @@ impl Model for Job {
     ghost invariant = { λ j. IsWithin j.options j.cut };
 }
 
-/// In which order the steps of a run that is counted are made.
-#[derive(Clone, Copy, Debug, PartialEq, Eq)]
-pub enum StepOrder {
-    /// Threads make them, as they come to it.
-    Threads,
-    /// One thread at a time makes them, in turns.
-    Turns,
-    /// One thread at a time makes them, by the schedule of this seed.
-    Seeded(u64),
-}
-
 /// What a count is asked for. Each of its numbers lies within its limits (`IsWithin`).
 #[derive(Clone, Copy, Debug, PartialEq, Eq)]
 pub struct CountJob {
@@ -66,8 +55,8 @@ pub struct CountJob {
     pub options: Options,
     /// Into how many pieces the count cuts the frames, 1 to 65,536.
     pub cut: u32,
-    /// In which order the steps of the run are made.
-    pub order: StepOrder,
+    /// The schedule of a replay. Where there is none the test is run in threads.
+    pub order: Option<Schedule>,
 }
 
 impl Model for CountJob {

@@ -12,9 +12,9 @@ mod laws;
 mod reading;
 mod values;
 
-pub use job::{Command, Count, CountJob, Job, StepOrder};
+pub use job::{Command, Count, CountJob, Job};
 pub use laws::lines_stand_for_their_commands;
-pub use perp_base::Options;
+pub use perp_base::{Options, Schedule};
 pub use reading::{WordsError, read_count, read_iterations, read_words};
 
 #[cfg(test)]

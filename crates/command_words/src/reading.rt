@@ -8,7 +8,7 @@ ghost use Rattle.command_words.specs.Clap.{HasNoNumber, IsRead, app_for, option_
 ghost use Rattle.command_words.specs.Words.{command_of, convert_in, count_in, count_of, demo_in, is_among, is_stray, iterations_in, job_in, job_of, options_of};
 
 use crate::job::{Command, Count, CountJob, Job};
-use crate::values::{count_or, number, number_or, order_in, read_within, step_order_in, within_or};
+use crate::values::{count_or, number, number_or, order_in, read_within, schedule_in, within_or};
 use clap::error::ErrorKind;
 use clap::{Arg, ArgMatches};
 use perp_base::{MOST_ITERATIONS, MOST_PIECES, Options};
@@ -62,7 +62,7 @@ fn count_from(matches: &ArgMatches) -> Option<CountJob>
 {
     let options = options_from(matches)?;
     let cut = within_or(matches.get_str("cut"), 4096, 1, MOST_PIECES)?;
-    let order = step_order_in(matches.get_str("order"))?;
+    let order = schedule_in(matches.get_str("order"))?;
     Some(CountJob {
         options,
         cut,

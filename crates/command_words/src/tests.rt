@@ -2,7 +2,7 @@
 ghost use Rattle.command_words.specs.Job.{IsWithin};
 
 use crate::{
-    Command, Count, CountJob, Job, Options, StepOrder, WordsError, read_count, read_iterations,
+    Command, Count, CountJob, Job, Options, Schedule, WordsError, read_count, read_iterations,
     read_words,
 };
 use std::alloc::{AllocError, Global};
@@ -173,8 +173,8 @@ fn count_job(alloc: Global, line: &str) -> Result<CountJob, WordsError> {
     read_count(alloc, &words)
 }
 
-/// A job of a count: so many pieces, and this order of steps.
-fn counting(options: Options, cut: u32, order: StepOrder) -> CountJob
+/// A job of a count: so many pieces, and this schedule.
+fn counting(options: Options, cut: u32, order: Option<Schedule>) -> CountJob
     requires { IsWithin options cut }
 {
     CountJob {
@@ -184,7 +184,7 @@ fn counting(options: Options, cut: u32, order: StepOrder) -> CountJob
     }
 }
 
-/// A name, and after it the number of iterations and the options of a run and its order, but not the way to count.
+/// A name, and after it the number of iterations and the options of a run and a schedule, but not the way to count.
 #[test]
 fn reads_counts(rt: HostRuntime) -> Result<(), Fail> {
     let alloc = rt.alloc();
@@ -195,18 +195,18 @@ fn reads_counts(rt: HostRuntime) -> Result<(), Fail> {
         buffer: 16,
     };
     for (line, job) in [
-        ("count 5", counting(USUAL, 4096, StepOrder::Threads)),
+        ("count 5", counting(USUAL, 4096, None)),
         (
             "count --order=turns 005 --cut 1",
-            counting(USUAL, 1, StepOrder::Turns),
+            counting(USUAL, 1, Some(Schedule::Turns)),
         ),
         (
             "count 5 --order 0 --cut=65536",
-            counting(USUAL, 65536, StepOrder::Seeded(0)),
+            counting(USUAL, 65536, Some(Schedule::Seeded(0))),
         ),
         (
             "count --buffer=16 --rate 256 --seed 18446744073709551615 100000",
-            counting(most, 4096, StepOrder::Threads),
+            counting(most, 4096, None),
         ),
     ] {
         assert_eq!(rt; count_job(alloc, line), Ok(job), "{line}");

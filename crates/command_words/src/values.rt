@@ -2,10 +2,10 @@
 ghost use Rattle.std.specs.Prelude.{◌≡◌, ◌≤◌, IfSome, option_map};
 ghost use Rattle.std.specs.Char.{is_ascii_digit};
 ghost use Rattle.std.specs.List.{list_all};
-ghost use Rattle.command_words.specs.declared.job.StepOrder.TheVariants.{Threads};
-ghost use Rattle.command_words.specs.Words.{count_named, is_number, number_of, number_within, or_else, order_of, step_order_named};
+ghost use Rattle.command_words.specs.Words.{count_named, is_number, number_of, number_within, or_else, order_of, schedule_in, schedule_named};
 
-use crate::job::{Count, StepOrder};
+use crate::job::Count;
+use perp_base::Schedule;
 
 fn are_digits(bytes: &[u8]) -> bool
     ensures { result ≡ list_all is_ascii_digit bytes.now }
@@ -100,22 +100,22 @@ pub(crate) fn order_in(text: Option<&str>) -> Option<Option<u64>>
     }
 }
 
-/// The order of steps of a value: `turns`, or the seed of a schedule.
-fn named_order(text: &str) -> Option<StepOrder>
-    ensures { result ≡ step_order_named text.now }
+/// The schedule of a value: `turns`, or the seed of one.
+fn named_schedule(text: &str) -> Option<Schedule>
+    ensures { result ≡ schedule_named text.now }
 {
     if text == "turns" {
-        return Some(StepOrder::Turns);
+        return Some(Schedule::Turns);
     }
-    Some(StepOrder::Seeded(number(text)?))
+    Some(Schedule::Seeded(number(text)?))
 }
 
-/// The order of steps, which threads make where no value is given.
-pub(crate) fn step_order_in(text: Option<&str>) -> Option<StepOrder>
-    ensures { result ≡ or_else Threads step_order_named (option_map (λ s. s.now) text.entry) }
+/// The schedule, where a value is given.
+pub(crate) fn schedule_in(text: Option<&str>) -> Option<Option<Schedule>>
+    ensures { result ≡ schedule_in (option_map (λ s. s.now) text.entry) }
 {
     match text {
-        None => Some(StepOrder::Threads),
-        Some(text) => named_order(text),
+        None => Some(None),
+        Some(text) => Some(Some(named_schedule(text)?)),
     }
 }

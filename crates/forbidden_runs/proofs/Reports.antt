@@ -19,9 +19,10 @@ use Rattle.tso_runs.proofs.Fitting.{fitting_run, scheduled_run}
 use Rattle.command_words.specs.Job.{Asked as Job}
 use Rattle.command_words.specs.declared.job.Count.{Count}
 use Rattle.command_words.specs.declared.job.Count.TheVariants.{Exhaustive, Heuristic, Both}
+use Rattle.program_edge.specs.Quantified.{is_negated}
 use Rattle.report_text.specs.Report.{ReportRows, asked_line, count_lines, head_lines, heuristic_lines, hit_lines, report_of, seen_line}
 use Rattle.report_text.specs.Words.{number_line}
-use Rattle.perple_core.specs.Texts.{asked, asks_exhaustive, asks_heuristic, frame_count_of, hit_count_of, is_negated, listed_hits_of, report_rows, text_of}
+use Rattle.perple_core.specs.Texts.{asked, asks_exhaustive, asks_heuristic, frame_count_of, hit_count_of, listed_hits_of, report_rows, text_of}
 use Rattle.perple_core.proofs.Accepting.{kinds_are}
 use Rattle.verdict.specs.declared.node.Node.{Node}
 use Rattle.verdict.proofs.Forward.{cycle_at, cycles_forbid_lem, none_hits}

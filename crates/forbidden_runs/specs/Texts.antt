@@ -7,7 +7,8 @@ use Rattle.command_words.specs.declared.job.Count.{Count}
 use Rattle.command_words.specs.declared.job.Count.TheVariants.{Exhaustive, Heuristic, Both}
 use Rattle.report_text.specs.Report.{condition_line}
 use Rattle.report_text.specs.Words.{number_line, test_line}
-use Rattle.perple_core.specs.Texts.{frame_count_of, is_negated}
+use Rattle.program_edge.specs.Quantified.{is_negated}
+use Rattle.perple_core.specs.Texts.{frame_count_of}
 
 -- the lines that say what was run
 abbrev pub head_text : LitmusTest → ℕ → List ℕ

@@ -6,9 +6,6 @@ use Rattle.tso_words.specs.Seats.{Ended as Closed}
 use Rattle.load_log.specs.Values.{Values}
 use Rattle.perp_base.specs.declared.options.Options.{Options}
 use Rattle.perp_base.specs.declared.schedule.Schedule.{Schedule}
-use Rattle.tso_runs.specs.Schedule.{IsScheduled}
-use Rattle.tso_runs.proofs.Fitting.{scheduled_run}
-use Rattle.perp_loop.specs.Crews.{AreWholeFor, HaveValuesOf}
 use Rattle.perp_base.specs.declared.failure.NoMemory.{NoMemory}
 use Rattle.litmus_reader.specs.Answer.{Accepted}
 use Rattle.profile_check.specs.Profile.{CheckedTest, IsChecked, Profile, inside, outside, profile_of}
@@ -21,8 +18,7 @@ use Rattle.convert_rows.specs.Rows.{conversion_rows_of}
 use Rattle.perple_core.specs.Counting.{CanCountFrames}
 use Rattle.perple_core.specs.Due.{due_for_profile, due_for_reading, has_too_many_frames}
 use Rattle.perple_core.specs.Texts.{asks_exhaustive, conversion_text_of, demo_options_of, frame_count_of, text_of}
-use Rattle.program_edge.specs.Field.{HasLogs, HasRunOn, IsStill, SomeRunFits}
-use Rattle.program_edge.proofs.Runs.{has_logs}
+use Rattle.program_edge.specs.Field.{HasLogs, HasReplayed, HasRunOn, IsStill, SomeRunFits}
 use Rattle.perple_core.specs.Top.{IsTextOfRun, IsTextOfSchedule}
 use Rattle.perple_core.proofs.Accepting.{kinds_are}
 
@@ -69,23 +65,15 @@ unfolding conversion_text_of
 converted checked rows is e =
     ap conversion_of (e ∙ ap (conversion_rows_of checked.test) (sym (kinds_are checked.test checked.kinds is.kinds)))
 
--- a test was replayed by a schedule, and left these logs
-pub record IsReplayed (test : LitmusTest) (options : Options) (schedule : Schedule) (logs : List Values) : Type 0 where
-  pub made : (run : List Event) × IsScheduled test options schedule run
-  pub every : (run : List Event) → IsScheduled test options schedule run → HaveValuesOf test run logs
-  pub whole : AreWholeFor test options.iterations logs
-
 -- the report of the run of a schedule
 pub schedule_text : (test : LitmusTest) (options : Options) (schedule : Schedule) (logs : List Values)
     (gives : List Event → List ℕ) (r : Result (String Global) NoMemory)
-    → IsReplayed test options schedule logs
+    → HasReplayed test options schedule logs
     → IfOk r (λ text. (run : List Event) → HasLogs test options.iterations run logs → string_bytes text ≡ gives run)
     → IfOk r (λ text. IsTextOfSchedule test options schedule gives (string_bytes text))
 schedule_text test options schedule logs gives (Ok text) replayed h = record {
-  some_run = replayed.made;
-  each =
-      λ run is. h run (has_logs test options.iterations run logs (scheduled_run test options schedule run is)
-      (replayed.every run is) replayed.whole);
+  some_run = replayed.some_run;
+  each = λ run is. h run (replayed.each run is);
 }
 schedule_text test options schedule logs gives (Err e) replayed h = tt
 

@@ -4,8 +4,6 @@ use Rattle.std.specs.Prelude.{ℕ, ◌^◌, Bool, true, false, Option, None, Som
 use Rattle.std.specs.List.{filter_map}
 use Rattle.std.specs.Result.{result_ok}
 use Rattle.x86_subset.specs.Test.{LitmusTest}
-use Rattle.x86_subset.specs.declared.test.Quantifier.{Quantifier}
-use Rattle.x86_subset.specs.declared.test.Quantifier.TheVariants.{Exists, NotExists}
 use Rattle.tso_machine.specs.Event.{Event}
 use Rattle.outcome_conv.specs.Hits.{hits_of}
 use Rattle.outcome_conv.specs.Picks.{picked_hits}
@@ -16,6 +14,7 @@ use Rattle.command_words.specs.declared.job.Count.{Count}
 use Rattle.command_words.specs.declared.job.Count.TheVariants.{Exhaustive, Heuristic, Both}
 use Rattle.command_words.specs.Job.{Asked as Job}
 use Rattle.demo_text.specs.Demo.{demo_iterations_of}
+use Rattle.program_edge.specs.Quantified.{is_negated}
 use Rattle.report_text.specs.Words.{number_line}
 use Rattle.report_text.specs.Report.{ReportRows, report_of}
 use Rattle.report_text.specs.Conversion.{conversion_of}
@@ -26,10 +25,6 @@ use Rattle.profile_check.specs.declared.kind.AtomKind.{AtomKind}
 -- the kinds of the atoms of a test, of which each has one
 abbrev pub kinds_of : LitmusTest → List AtomKind
 kinds_of test = filter_map (λ atom. result_ok (kind_of test atom)) test.atoms
-
-abbrev pub is_negated : Quantifier → Bool
-is_negated Exists = false
-is_negated NotExists = true
 
 abbrev pub asks_exhaustive : Count → Bool
 asks_exhaustive Exhaustive = true

@@ -4,7 +4,7 @@ ghost use Rattle.std.specs.Str.{IsAscii};
 ghost use Rattle.tso_machine.specs.Event.{Event};
 ghost use Rattle.perp_loop.specs.Crews.{AreWholeFor};
 ghost use Rattle.report_text.specs.Report.{rows_of, report_of};
-ghost use Rattle.perple_core.specs.Texts.{asked, asks_exhaustive, asks_heuristic, frame_count_of, hit_count_of, is_negated, listed_hits_of, report_rows};
+ghost use Rattle.perple_core.specs.Texts.{asked, asks_exhaustive, asks_heuristic, frame_count_of, hit_count_of, listed_hits_of, report_rows};
 
 use crate::counters::Counters;
 use command_words::Count;
@@ -14,10 +14,10 @@ use load_log::Logs;
 use perp_base::{Frame, Name, NoMemory};
 use perp_loop::Options;
 use profile_check::Checked;
+use program_edge::is_negated;
 use report_text::{Report, report};
 use std::alloc::Global;
 use std::thread::Threads;
-use x86_subset::Quantifier;
 
 /// What is to be reported of a run.
 #[derive(Clone, Copy)]
@@ -38,12 +38,6 @@ fn asks_for_hits(count: Count) -> bool
     ensures { result ≡ asks_heuristic count }
 {
     count != Count::Exhaustive
-}
-
-fn is_negated_by(quantifier: Quantifier) -> bool
-    ensures { result ≡ is_negated quantifier }
-{
-    quantifier == Quantifier::NotExists
 }
 
 impl Wanted {
@@ -150,7 +144,7 @@ impl Wanted {
             name,
             threads: test.threads() as u32,
             iterations: self.options.iterations,
-            negated: is_negated_by(test.quantifier()),
+            negated: is_negated(test.quantifier()),
             atoms: test.atoms().len() as u32,
             frames: self.frames(checked),
             exhaustive: self.count(rt, checked, counters, logs),

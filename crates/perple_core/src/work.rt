@@ -17,14 +17,14 @@ use command_words::{Command, Count, Job};
 use convert_rows::conversion;
 use demo_text::demo_iterations;
 use perp_base::NoMemory;
-use perp_loop::{Crew, Gate, Options, Schedule, replay};
+use perp_loop::{Gate, Options, Schedule};
 use profile_check::Checked;
-use program_edge::{Answered, Ran, run_test};
+use program_edge::{Answered, Ran, replay_test, run_test};
 use report_text::convert_text;
 use seq_conv::Sequences;
 use std::alloc::Global;
 use std::thread::Threads;
-use tso_words::{Field, Traced};
+use tso_words::Field;
 
 /// What is wanted of the run of a job.
 fn wanted_by(job: &Job) -> Wanted
@@ -123,10 +123,13 @@ fn replayed<R: Threads + Sync>(
         (λ run. report_of (report_rows checked.now.test wanted.now.options wanted.now.count wanted.now.show_hits run)) (string_bytes text)) }
 {
     let counters = Counters::of(alloc, checked)?;
-    let crew = Crew::new(alloc, checked.test(), &counters.sequences, &wanted.options)?;
-    let traced = Traced::reserve(alloc, crew.owed())?;
-    let (traced, logs) = replay(traced, crew, schedule);
-    drop(traced);
+    let logs = replay_test(
+        alloc,
+        checked.test(),
+        &counters.sequences,
+        &wanted.options,
+        schedule,
+    )?;
     wanted.report(rt, alloc, checked, &counters, &logs)
 }
 

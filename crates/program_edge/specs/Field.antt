@@ -9,7 +9,9 @@ use Rattle.tso_machine.specs.Log.{AreLogsOf}
 use Rattle.tso_words.specs.History.{eight, zeros}
 use Rattle.tso_words.specs.Seats.{Ended as Closed}
 use Rattle.perp_base.specs.declared.options.Options.{Options}
+use Rattle.perp_base.specs.declared.schedule.Schedule.{Schedule}
 use Rattle.tso_runs.specs.Fits.{Fits, EndsWith}
+use Rattle.tso_runs.specs.Schedule.{IsScheduled}
 use Rattle.perp_loop.specs.Crews.{AreWholeFor}
 
 -- no step was made on the field
@@ -32,4 +34,10 @@ pub record HasLogs (test : LitmusTest) (n : ℕ) (run : List Event) (logs : List
 pub record HasRunOn (test : LitmusTest) (options : Options) (done : Closed) (logs : List Values) : Type 0 where
   pub some_run : SomeRunFits test options done
   pub each : (run : List Event) → Fits test options done.lists run → HasLogs test options.iterations run logs
+  pub whole : AreWholeFor test options.iterations logs
+
+-- the test was replayed, with no field: the schedule has a run, and each run of it has these logs, which are whole
+pub record HasReplayed (test : LitmusTest) (options : Options) (schedule : Schedule) (logs : List Values) : Type 0 where
+  pub some_run : (run : List Event) × IsScheduled test options schedule run
+  pub each : (run : List Event) → IsScheduled test options schedule run → HasLogs test options.iterations run logs
   pub whole : AreWholeFor test options.iterations logs

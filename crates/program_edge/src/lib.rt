@@ -6,8 +6,9 @@
 //! onto the sink, and leaves the sink alone at a refusal; `put_line` writes a line of which any part may be lost. How a
 //! call ends stands in `specs/Ending`, for the commands and the statuses of any program. `run_test` runs the threads of
 //! a test on a field: some run of x86-TSO fits what they did there, and each that fits has the logs (its clause `ran`,
-//! by `HasRunOn`); where memory ran out they did nothing (`still`). A field on which nothing is run is closed by
-//! `close_unused`. A `Request` is what the words and the source ask of a program, with the bytes that were read by
+//! by `HasRunOn`); where memory ran out they did nothing (`still`). `replay_test` makes the run of a schedule with no
+//! field (`HasReplayed`). A field on which nothing is run is closed by `close_unused`. `is_negated` tells the quantifier
+//! of a condition. A `Request` is what the words and the source ask of a program, with the bytes that were read by
 //! `input_of`; what is said of its answer in `specs/Request` asks nothing of a source or a sink. An `Answered` is a
 //! text, or why there is none, with the closed field. `words_of` gives the words of a program, or says why it gets none.
 //! `ending` is the number with which a program ends: that of its call's status, or that of why the call was not made.
@@ -16,6 +17,7 @@
 mod answered;
 mod closing;
 mod numbered;
+mod quantified;
 mod reading;
 mod request;
 mod running;
@@ -26,9 +28,10 @@ mod writing;
 pub use answered::{Answered, Outcome};
 pub use closing::close_unused;
 pub use numbered::{Numbered, ending};
+pub use quantified::is_negated;
 pub use reading::{check_test, read_test};
 pub use request::{Request, input_of};
-pub use running::{Ran, run_test};
+pub use running::{Ran, replay_test, run_test};
 pub use unmade::Unmade;
 pub use words::words_of;
 pub use writing::{deliver, put_line};

@@ -1,17 +1,17 @@
-//! A test is run by threads on a field.
+//! A test is run by threads on a field, or replayed by a schedule.
 ghost use Rattle.std.specs.Prelude.{◌≡◌, IfErr, IfOk};
 ghost use Rattle.seq_conv.specs.Numbers.{AreOf};
 ghost use Rattle.perp_base.specs.Options.{IsWithinLimits};
-ghost use Rattle.program_edge.specs.Field.{HasRunOn, IsStill};
+ghost use Rattle.program_edge.specs.Field.{HasReplayed, HasRunOn, IsStill};
 
 use crate::closing::close_unused;
 use load_log::Logs;
 use perp_base::NoMemory;
-use perp_loop::{Crew, Gate, Options, run_threads};
+use perp_loop::{Crew, Gate, Options, Schedule, replay, run_threads};
 use seq_conv::Sequences;
 use std::alloc::Global;
 use std::thread::Threads;
-use tso_words::{Done, Field};
+use tso_words::{Done, Field, Traced};
 use x86_subset::Test;
 
 /// The closed field, and the logs of the run; or want of memory before its first step.
@@ -51,4 +51,23 @@ pub fn run_test<R: Threads + Sync, G: Gate>(
             logs: Err(refused),
         },
     }
+}
+
+/// The logs of the run of a schedule, which one thread makes with no field.
+pub fn replay_test(
+    alloc: Global,
+    test: &Test,
+    sequences: &Sequences,
+    options: &Options,
+    schedule: Schedule,
+) -> Result<Logs, NoMemory>
+    requires sequences { AreOf test.now sequences.now }
+    requires limits { IsWithinLimits options.now }
+    ensures { IfOk result (λ logs. HasReplayed test.now options.now schedule logs.logs) }
+{
+    let crew = Crew::new(alloc, test, sequences, options)?;
+    let traced = Traced::reserve(alloc, crew.owed())?;
+    let (traced, logs) = replay(traced, crew, schedule);
+    drop(traced);
+    Ok(logs)
 }

@@ -15,10 +15,11 @@ use Rattle.report_text.specs.declared.status.Status.TheVariants.{Whole, Memory, 
 use Rattle.run_text.specs.Events.{events_of}
 use Rattle.run_text.specs.Sections.{Split}
 use Rattle.program_edge.specs.Form.{due_for_atoms, due_for_form, over_of}
-use Rattle.tool_core.specs.Due.{IsDue, IsDueForParts, IsDueForText, due_for_events, due_for_lines, due_for_reading, due_for_test, due_for_witness, due_for_writers, first_due, most_events_of, parts_of, section_logs}
-use Rattle.tool_core.specs.Top.{AsksForKinds}
+use Rattle.tool_core.specs.Due.{IsDue, IsDueForParts, IsDueForText, due_for_events, due_for_frames, due_for_lines, due_for_reading, due_for_test, due_for_witness, due_for_writers, first_due, most_events_of, parts_of, section_logs}
+use Rattle.tool_core.specs.Counting.{frame_count_of}
+use Rattle.tool_core.specs.Top.{AsksForFrames, AsksForKinds}
 use Rattle.tool_core.specs.declared.words.Command.{Command}
-use Rattle.tool_core.specs.declared.words.Command.TheVariants.{Judge, Order, Witness, Verdict, Show, Faithful, Skew}
+use Rattle.tool_core.specs.declared.words.Command.TheVariants.{Judge, Order, Witness, Verdict, Show, Faithful, Skew, Count}
 use Rattle.tool_core.specs.declared.status.ToolStatus.{ToolStatus}
 use Rattle.tool_core.specs.declared.status.ToolStatus.TheVariants.{Core, NoSection, BadLine, TooLong, Events, SeveralWriters}
 
@@ -46,13 +47,13 @@ one_due command input a b p q = one_due_parts command (parts_of command input) a
 
 -- ---- the statuses of an input that is refused, by the command
 
-abbrev pub IsOfText : Over → Type 0
-IsOfText Input = Unit {0}
-IsOfText Threads = Unit {0}
-IsOfText Locations = Unit {0}
-IsOfText Instructions = Unit {0}
-IsOfText Atoms = Unit {0}
-IsOfText Frames = ⊥
+abbrev pub IsOfText : Command → Over → Type 0
+IsOfText command Input = Unit {0}
+IsOfText command Threads = Unit {0}
+IsOfText command Locations = Unit {0}
+IsOfText command Instructions = Unit {0}
+IsOfText command Atoms = Unit {0}
+IsOfText command Frames = AsksForFrames command
 
 abbrev pub IsOfInput : Command → ToolStatus → Type 0
 IsOfInput command (Core Whole) = ⊥
@@ -62,7 +63,7 @@ IsOfInput command (Core ReadFault) = ⊥
 IsOfInput command (Core WriteFault) = ⊥
 IsOfInput command (Core (NotLitmus kind line)) = Unit {0}
 IsOfInput command (Core (OutsideProfile atom kind)) = AsksForKinds command
-IsOfInput command (Core (Limit over)) = IsOfText over
+IsOfInput command (Core (Limit over)) = IsOfText command over
 IsOfInput command NoSection = Unit {0}
 IsOfInput command (BadLine line) = Unit {0}
 IsOfInput command TooLong = ⊥
@@ -106,6 +107,11 @@ of_profile : (command : Command) (profile : Profile) → AsksForKinds command
 of_profile command inside counts = of_none command
 of_profile command (outside atom kind) counts = λ s e. some_of command (Core (OutsideProfile atom _)) s e counts
 
+of_frames : (command : Command) (many : Bool) → AsksForFrames command
+    → Gives command (if many then Some (Core (Limit Frames)) else None)
+of_frames command true counts = λ s e. some_of command (Core (Limit Frames)) s e counts
+of_frames command false counts = of_none command
+
 of_test : (command : Command) (test : LitmusTest) (parts : Split) → Gives command (due_for_test command test parts)
 of_test Judge test parts = of_lines Judge (events_of parts.line parts.lines)
 of_test Order test parts =
@@ -116,17 +122,21 @@ of_test Verdict test parts = of_profile Verdict (profile_of test) tt
 of_test Show test parts = of_profile Show (profile_of test) tt
 of_test Faithful test parts = of_profile Faithful (profile_of test) tt
 of_test (Skew n) test parts = of_none (Skew n)
+of_test (Count job) test parts =
+    of_first (Count job) (option_map Core (due_for_atoms (profile_of test))) (due_for_frames test job.options)
+    (of_profile (Count job) (profile_of test) tt)
+    (of_frames (Count job) (nat_lt 4294967296 (frame_count_of test job.options)) tt)
 
-of_shape : (shape : Shape) → IsOfText (over_of shape)
-of_shape shapes.Threads = tt
-of_shape shapes.Locations = tt
-of_shape shapes.Instrs = tt
-of_shape shapes.Atoms = tt
+of_shape : (command : Command) (shape : Shape) → IsOfText command (over_of shape)
+of_shape command shapes.Threads = tt
+of_shape command shapes.Locations = tt
+of_shape command shapes.Instrs = tt
+of_shape command shapes.Atoms = tt
 
 of_reading : (command : Command) (parts : Split) (answer : Answer)
     → Gives command (due_for_reading command parts answer)
 of_reading command parts (Unread refusal) = λ s e. some_of command (Core (NotLitmus _ refusal.line)) s e tt
-of_reading command parts (TooLarge limit) = λ s e. some_of command (Core (Limit _)) s e (of_shape limit)
+of_reading command parts (TooLarge limit) = λ s e. some_of command (Core (Limit _)) s e (of_shape command limit)
 of_reading command parts (Accepted test) = of_test command test parts
 
 of_parts_by : (command : Command) (parts : Split) (long : Bool) (s : ToolStatus)

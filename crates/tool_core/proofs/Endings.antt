@@ -1,5 +1,6 @@
 -- What the endings of the second program rest on, and what its clauses say of them.
-use Rattle.std.proofs.Common.{◌≡◌, ◌⊎◌, ℕ, List, Some, None, inl, inr, refl, sym, ap, subst, ◌∙◌}
+use Rattle.std.proofs.Common.{◌≡◌, ◌⊎◌, ℕ, List, Option, Some, None, inl, inr, refl, sym, ap, subst, ◌∙◌}
+use Rattle.std.proofs.lemmas.Option.{none-some}
 use Rattle.x86_subset.specs.Test.{LitmusTest}
 use Rattle.tso_words.specs.Seats.{Ended as Closed}
 use Rattle.litmus_reader.specs.Answer.{Accepted}
@@ -14,10 +15,13 @@ use Rattle.program_edge.proofs.Bytes.{given_bytes}
 use Rattle.program_edge.proofs.Endings.{HasText, IsLawful, is_of_input, other_status_of, still_of, answer_of, taken_of, whole_of as text_whole, part_of as text_part}
 use Rattle.tool_core.specs.Words.{command_of}
 use Rattle.tool_core.specs.Due.{IsDue, Took, all_litmus, call_of}
+use Rattle.perp_base.specs.declared.options.Options.{Options}
+use Rattle.perp_base.specs.declared.schedule.Schedule.{Schedule}
+use Rattle.tool_core.specs.Counting.{RanAs, WasMade, run_options}
 use Rattle.tool_core.specs.Texts.{options_of}
-use Rattle.tool_core.specs.Top.{Answers, Ended, IsAfterReading, IsAnswer, IsField, IsStillCommand, IsText, RanFor, ReadsToEnd, RunFits, SuitsCommand, Told, WritesPart, WritesWhole, iterations_run}
+use Rattle.tool_core.specs.Top.{Answers, Ended, IsAfterReading, IsAnswer, IsField, IsStillCommand, IsText, RanFor, ReadsToEnd, RunFits, SuitsCommand, Told, WritesPart, WritesWhole, options_run}
 use Rattle.tool_core.specs.declared.words.Command.{Command}
-use Rattle.tool_core.specs.declared.words.Command.TheVariants.{Judge, Order, Witness, Verdict, Show, Faithful, Skew}
+use Rattle.tool_core.specs.declared.words.Command.TheVariants.{Judge, Order, Witness, Verdict, Show, Faithful, Skew, Count}
 use Rattle.tool_core.specs.declared.status.ToolStatus.{ToolStatus}
 use Rattle.tool_core.specs.declared.status.ToolStatus.TheVariants.{Core, TooLong}
 use Rattle.tool_core.proofs.Dues.{IsOfInput, due_for_text, of_input, one_due, test_is_due}
@@ -77,6 +81,12 @@ of_taken command input status is e none (inr due) = subst (IsOfInput command) e 
 
 -- ---- what is left after
 
+-- where the field is untouched by the words, it is by the call
+still_made : (order : Option Schedule) (test : LitmusTest) (options : Options) (done : Closed)
+    → run_options order options ≡ None → WasMade order test options done → IsStill done
+still_made None test options done still made = absurd (none-some options (sym still))
+still_made (Some schedule) test options done still made = made.0
+
 pub still_text : (command : Command) (test : LitmusTest) (parts : Split) (done : Closed) (text : List ℕ)
     → IsStillCommand command → IsText command test parts done text → IsStill done
 still_text Judge test parts done text still right = right.0
@@ -86,16 +96,12 @@ still_text Verdict test parts done text still right = right.0
 still_text Show test parts done text still right = right.0
 still_text Faithful test parts done text still right = right.0
 still_text (Skew n) test parts done text still right = absurd (cc)
+still_text (Count job) test parts done text still right = still_made job.order test job.options done still right.made
 
 pub still_ran : (command : Command) (test : LitmusTest) (done : Closed) → IsStillCommand command → RanFor command test done
     → ⊥
-still_ran Judge test done still ran = ran
-still_ran Order test done still ran = ran
-still_ran (Witness n) test done still ran = cc
-still_ran Verdict test done still ran = ran
-still_ran Show test done still ran = ran
-still_ran Faithful test done still ran = ran
-still_ran (Skew n) test done still ran = cc
+still_ran command test done still ran =
+    subst (λ (o : Option Options). RanAs o test done) still ran
 
 -- ---- runs
 
@@ -109,27 +115,36 @@ whole_test input parts test read e reading reads =
     (sym same) reading in
     same_test input test read whole reads
 
-fits_for : (m n : ℕ) (test read : LitmusTest) (done : Closed) → Some m ≡ Some n → test ≡ read
-    → SomeRunFits test (options_of m) done → SomeRunFits read (options_of n) done
+fits_for : (m n : Options) (test read : LitmusTest) (done : Closed) → Some m ≡ Some n → test ≡ read
+    → SomeRunFits test m done → SomeRunFits read n done
 fits_for m n test read done e same fits =
-    let count : m ≡ n = cc in
-    subst (λ (t : LitmusTest). SomeRunFits t (options_of n) done) same
-    (subst (λ k. SomeRunFits test (options_of k) done) count fits)
+    let options : m ≡ n = cc in
+    subst (λ (t : LitmusTest). SomeRunFits t n done) same
+    (subst (λ (o : Options). SomeRunFits test o done) options fits)
 
-pub fits_by : (command : Command) (n : ℕ) (input text : List ℕ) (read : LitmusTest) (done : Closed)
-    → iterations_run command ≡ Some n → Reads input (Accepted read)
-    → IsAnswer command input done text → SomeRunFits read (options_of n) done
-fits_by Judge n input text read done e reads a = absurd (cc)
-fits_by Order n input text read done e reads a = absurd (cc)
-fits_by (Witness m) n input text read done e reads a =
-    fits_for m n a.test read done e (whole_test input a.parts a.test read a.accepts.parts_are a.accepts.reading reads)
-    a.right.some_run
-fits_by Verdict n input text read done e reads a = absurd (cc)
-fits_by Show n input text read done e reads a = absurd (cc)
-fits_by Faithful n input text read done e reads a = absurd (cc)
-fits_by (Skew m) n input text read done e reads a =
-    fits_for m n a.test read done e (whole_test input a.parts a.test read a.accepts.parts_are a.accepts.reading reads)
-    a.right.some_run
+-- threads made the run that is counted
+fits_made : (order : Option Schedule) (m n : Options) (test read : LitmusTest) (done : Closed)
+    → run_options order m ≡ Some n → test ≡ read → WasMade order test m done → SomeRunFits read n done
+fits_made None m n test read done e same made = fits_for m n test read done e same made
+fits_made (Some schedule) m n test read done e same made = absurd (none-some n e)
+
+pub fits_by : (command : Command) (options : Options) (input text : List ℕ) (read : LitmusTest) (done : Closed)
+    → options_run command ≡ Some options → Reads input (Accepted read)
+    → IsAnswer command input done text → SomeRunFits read options done
+fits_by Judge options input text read done e reads a = absurd (cc)
+fits_by Order options input text read done e reads a = absurd (cc)
+fits_by (Witness n) options input text read done e reads a =
+    fits_for (options_of n) options a.test read done e
+    (whole_test input a.parts a.test read a.accepts.parts_are a.accepts.reading reads) a.right.some_run
+fits_by Verdict options input text read done e reads a = absurd (cc)
+fits_by Show options input text read done e reads a = absurd (cc)
+fits_by Faithful options input text read done e reads a = absurd (cc)
+fits_by (Skew n) options input text read done e reads a =
+    fits_for (options_of n) options a.test read done e
+    (whole_test input a.parts a.test read a.accepts.parts_are a.accepts.reading reads) a.right.some_run
+fits_by (Count job) options input text read done e reads a =
+    fits_made job.order job.options options a.test read done e
+    (whole_test input a.parts a.test read a.accepts.parts_are a.accepts.reading reads) a.right.made
 
 -- ---- what the clauses say
 
@@ -149,7 +164,7 @@ module _ {words : List (List ℕ)} {old new : View} {done : Closed} {out_old out
         let is = Core (Limit Frames) in
         let input = is_of_input Core (λ s. s ≡ is) (λ e. cc) (λ e. cc) (λ e. cc) is refl in
         let t = taken_of here (λ s. s ≡ is) (λ e. cc) (λ e. cc) (λ e. cc) (λ e. cc) status ended e in
-        of_taken t.0 t.1 status is e input.text t.3;
+        (t.0, t.2.command_is, of_taken t.0 t.1 status is e input.text t.3);
   }
 
   pub ends_of : ReadsToEnd new status
@@ -179,6 +194,6 @@ module _ {words : List (List ℕ)} {old new : View} {done : Closed} {out_old out
       record { text = a.0; answer = answer; is_on = (a.2, a.3, a.4) }
 
   pub fits_of : RunFits words old done status
-  fits_of = λ command n input test told runs has reading.
+  fits_of = λ command options input test told runs has reading.
       let a = answer_of here status ended has in
-      fits_by command n input a.0 test done runs reading (answer_to_told words old new done command input a.0 told a.1)
+      fits_by command options input a.0 test done runs reading (answer_to_told words old new done command input a.0 told a.1)

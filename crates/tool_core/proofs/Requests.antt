@@ -13,7 +13,8 @@ use Rattle.program_edge.specs.declared.request.Request.TheVariants.{Misused, NoM
 use Rattle.program_edge.proofs.Requests.{IsTaking, refused_of, took_of}
 use Rattle.tool_core.specs.Answering.{AnswerFits, IsAnswerTo, IsLeftBy, IsUsageOf, MovesInRuns, TextOrRefusal}
 use Rattle.tool_core.specs.Due.{IsDue, Refused, call_of, tool_program}
-use Rattle.tool_core.specs.Top.{Answers, IsAnswer, IsStillCommand, Leaves, Ran, iterations_run}
+use Rattle.tool_core.specs.Top.{Answers, IsAnswer, IsStillCommand, Leaves, Ran, options_run}
+use Rattle.perp_base.specs.declared.options.Options.{Options}
 use Rattle.tool_core.specs.declared.words.Command.{Command}
 use Rattle.tool_core.specs.declared.status.ToolStatus.{ToolStatus}
 use Rattle.tool_core.specs.declared.status.ToolStatus.TheVariants.{Core}
@@ -74,25 +75,25 @@ none_due_from request done (Err s) right = tt
 
 pub fits_from : (request : Request Command) (done : Closed) (answer : TextOrRefusal)
     → IfOk answer (λ t. IsAnswerTo request done (string_bytes t)) → AnswerFits request done answer
-fits_from request done (Ok t) right = λ command n input test is runs reading.
-    fits_by command n input.items (string_bytes t) test done runs reading
+fits_from request done (Ok t) right = λ command options input test is runs reading.
+    fits_by command options input.items (string_bytes t) test done runs reading
     (subst (λ (r : Request Command). IsAnswerTo r done (string_bytes t)) is right)
-fits_from request done (Err s) right = λ command n input test is runs reading. tt
+fits_from request done (Err s) right = λ command options input test is runs reading. tt
 
-none_of : (o : Option ℕ) → ((n : ℕ) × (o ≡ Some n) → ⊥) → o ≡ None
+none_of : {X : Type 0} (o : Option X) → ((x : X) × (o ≡ Some x) → ⊥) → o ≡ None
 none_of None other = refl
-none_of (Some n) other = absurd (other (n, refl))
+none_of (Some x) other = absurd (other (x, refl))
 
-still_command : (command : Command) → ((n : ℕ) × (iterations_run command ≡ Some n) → ⊥) → IsStillCommand command
-still_command command other = none_of (iterations_run command) other
+still_command : (command : Command) → ((options : Options) × (options_run command ≡ Some options) → ⊥) → IsStillCommand command
+still_command command other = none_of (options_run command) other
 
 still_answer : (command : Command) (input text : List ℕ) (done : Closed) → IsAnswer command input done text
-    → ((n : ℕ) × (iterations_run command ≡ Some n) → ⊥) → IsStill done
+    → ((options : Options) × (options_run command ≡ Some options) → ⊥) → IsStill done
 still_answer command input text done a other =
     still_text command a.test a.parts done text (still_command command other) a.right
 
 not_ran : (command : Command) (input : List ℕ) (done : Closed) → Ran command input done
-    → ((n : ℕ) × (iterations_run command ≡ Some n) → ⊥) → ⊥
+    → ((options : Options) × (options_run command ≡ Some options) → ⊥) → ⊥
 not_ran command input done r other = still_ran command r.test done (still_command command other) r.ran
 
 answered_still : (request : Request Command) (done : Closed) (text : List ℕ) → IsAnswerTo request done text

@@ -3,6 +3,7 @@
 -- Owens, Zappa Nardelli and Myreen, CACM 2010); the rest is this project's own.
 use Rattle.std.specs.Prelude.{◌≡◌, ℕ, List, Some, Result, Ok, Err, String, Vec, IfOk}
 use Rattle.std.specs.Global.{Global}
+use Rattle.perp_base.specs.declared.options.Options.{Options}
 use Rattle.x86_subset.specs.Test.{LitmusTest}
 use Rattle.tso_words.specs.Seats.{Ended as Closed}
 use Rattle.litmus_reader.specs.Answer.{Accepted}
@@ -14,9 +15,8 @@ use Rattle.program_edge.specs.Request.{AsksFor}
 use Rattle.program_edge.specs.declared.request.Request.{Request}
 use Rattle.program_edge.specs.declared.request.Request.TheVariants.{Misused, NoMemory, Alone, Given}
 use Rattle.tool_core.specs.Due.{tool_program}
-use Rattle.tool_core.specs.Texts.{options_of}
-use Rattle.tool_core.specs.Top.{IsAnswer, Ran, iterations_run}
-use Rattle.tool_core.specs.Words.{HasIterations}
+use Rattle.tool_core.specs.Top.{IsAnswer, Ran, options_run}
+use Rattle.tool_core.specs.Words.{IsWithinItsLimits}
 use Rattle.tool_core.specs.declared.words.Command.{Command}
 use Rattle.tool_core.specs.declared.status.ToolStatus.{ToolStatus}
 use Rattle.tool_core.specs.declared.status.ToolStatus.TheVariants.{Core}
@@ -25,12 +25,12 @@ use Rattle.tool_core.specs.declared.status.ToolStatus.TheVariants.{Core}
 abbrev pub TextOrRefusal : Type 0
 TextOrRefusal = Result (String Global) ToolStatus
 
--- the iterations of the command are within their limits
+-- the numbers of the command are within their limits
 abbrev pub AsksWithin : Request Command → Type 0
 AsksWithin Misused = Unit {0}
 AsksWithin NoMemory = Unit {0}
-AsksWithin (Alone command) = HasIterations command
-AsksWithin (Given command input) = HasIterations command
+AsksWithin (Alone command) = IsWithinItsLimits command
+AsksWithin (Given command input) = IsWithinItsLimits command
 
 -- the text is the right answer to the command and the input
 abbrev pub IsAnswerTo : Request Command → Closed → List ℕ → Type 0
@@ -49,11 +49,12 @@ pub record IsUsageOf (request : Request Command) (answer : TextOrRefusal) : Type
 -- Where a command runs the test, what the threads did on the field is what some legal run of x86-TSO does, in which each
 -- thread performs its body as often as the command asks; it ends with the field's words.
 abbrev pub AnswerFits : Request Command → Closed → TextOrRefusal → Type 0
-AnswerFits request done answer = (command : Command) (n : ℕ) (input : Vec ℕ Global) (test : LitmusTest)
-    → request ≡ Given command (Ok input) → iterations_run command ≡ Some n → Reads input.items (Accepted test)
-    → IfOk answer (λ _. SomeRunFits test (options_of n) done)
+AnswerFits request done answer = (command : Command) (options : Options) (input : Vec ℕ Global) (test : LitmusTest)
+    → request ≡ Given command (Ok input) → options_run command ≡ Some options → Reads input.items (Accepted test)
+    → IfOk answer (λ _. SomeRunFits test options done)
 
 -- The field moves only where the request is of a command that runs the test.
 abbrev pub MovesInRuns : Request Command → Closed → Type 0
 MovesInRuns request done =
-    (AsksFor tool_program request (λ command _. (n : ℕ) × (iterations_run command ≡ Some n)) → ⊥) → IsStill done
+    (AsksFor tool_program request (λ command _. (options : Options) × (options_run command ≡ Some options)) → ⊥)
+    → IsStill done

@@ -1,14 +1,14 @@
 -- Which refusal is due for a command and its input: this project's own order of refusals.
 use Rattle.std.specs.Prelude.{◌≡◌, ◌≤◌, ℕ, ◌*◌, List, [], length, codes, map, nat_lt, if◌then◌else◌, Option, None, Some, Result, Ok, Err, option_map, MatchBool}
 use Rattle.std.specs.List.{range_with_len}
-use Rattle.perp_base.specs.declared.limits.TheConstants.{MOST_BYTES, MOST_INPUT}
+use Rattle.perp_base.specs.declared.limits.TheConstants.{MOST_BYTES, MOST_FRAMES, MOST_INPUT}
 use Rattle.perp_base.specs.Bytes.{GaveAll}
 use Rattle.x86_subset.specs.Test.{LitmusTest, body_of, columns_of}
 use Rattle.load_log.specs.Values.{Values}
 use Rattle.litmus_reader.specs.Answer.{Answer, Accepted, Refused as Unread, Over as TooLarge}
 use Rattle.litmus_reader.specs.Reading.{Reads}
 use Rattle.profile_check.specs.Profile.{profile_of}
-use Rattle.report_text.specs.declared.status.Over.TheVariants.{Input}
+use Rattle.report_text.specs.declared.status.Over.TheVariants.{Frames, Input}
 use Rattle.report_text.specs.declared.status.Status.TheVariants.{Limit}
 use Rattle.run_text.specs.Events.{events_of}
 use Rattle.run_text.specs.Logs.{logs_of}
@@ -19,9 +19,11 @@ use Rattle.perp_base.specs.View.{View}
 use Rattle.program_edge.specs.Ending.{Call, Refused as RefusedCall}
 use Rattle.program_edge.specs.Form.{due_for_atoms, due_for_form}
 use Rattle.program_edge.specs.Request.{Program}
+use Rattle.perp_base.specs.declared.options.Options.{Options}
+use Rattle.tool_core.specs.Counting.{frame_count_of}
 use Rattle.tool_core.specs.Words.{command_of}
 use Rattle.tool_core.specs.declared.words.Command.{Command}
-use Rattle.tool_core.specs.declared.words.Command.TheVariants.{Judge, Order, Witness, Verdict, Show, Faithful, Skew}
+use Rattle.tool_core.specs.declared.words.Command.TheVariants.{Judge, Order, Witness, Verdict, Show, Faithful, Skew, Count}
 use Rattle.tool_core.specs.declared.status.ToolStatus.{ToolStatus}
 use Rattle.tool_core.specs.declared.status.ToolStatus.TheVariants.{Core, NoSection, BadLine, TooLong, Events, SeveralWriters}
 
@@ -36,6 +38,7 @@ heading_of Verdict = None
 heading_of Show = None
 heading_of Faithful = None
 heading_of (Skew n) = None
+heading_of (Count job) = None
 
 -- without a section the whole input is the litmus part
 abbrev pub all_litmus : List ℕ → Split
@@ -81,6 +84,15 @@ due_for_events test n = if nat_lt 1000000 (most_events_of test n) then Some Even
 abbrev pub due_for_witness : LitmusTest → ℕ → Option ToolStatus
 due_for_witness test n = first_due (due_for_writers test) (due_for_events test n)
 
+-- more frames than can be counted
+abbrev pub due_for_frames : LitmusTest → Options → Option ToolStatus
+due_for_frames test options = if nat_lt MOST_FRAMES (frame_count_of test options) then Some (Core (Limit Frames)) else None
+
+-- a count asks that each atom has a kind, and then that there are not too many frames
+abbrev pub due_for_count : LitmusTest → Options → Option ToolStatus
+due_for_count test options =
+    first_due (option_map Core (due_for_atoms (profile_of test))) (due_for_frames test options)
+
 -- what a command asks of a test and its section
 abbrev pub due_for_test : Command → LitmusTest → Split → Option ToolStatus
 due_for_test Judge test parts = due_for_lines (events_of parts.line parts.lines)
@@ -91,6 +103,7 @@ due_for_test Verdict test parts = option_map Core (due_for_atoms (profile_of tes
 due_for_test Show test parts = option_map Core (due_for_atoms (profile_of test))
 due_for_test Faithful test parts = option_map Core (due_for_atoms (profile_of test))
 due_for_test (Skew n) test parts = None
+due_for_test (Count job) test parts = due_for_count test job.options
 
 -- ---- refusals of an input
 

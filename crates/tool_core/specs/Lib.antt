@@ -5,6 +5,8 @@ pub mod RuledOut
 pub mod Texts
 pub mod Showing
 pub mod Faithful
+pub mod Counting
+pub mod Counters
 pub mod Top
 pub mod Answering
 pub mod Laws

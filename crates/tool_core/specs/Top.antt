@@ -10,6 +10,7 @@ use Rattle.litmus_reader.specs.Reading.{Reads}
 use Rattle.report_text.specs.declared.status.Over.TheVariants.{Frames}
 use Rattle.report_text.specs.declared.status.Status.TheVariants.{Whole, Memory, Usage, ReadFault, WriteFault, NotLitmus, OutsideProfile, Limit}
 use Rattle.perp_base.specs.Causes.{Rose}
+use Rattle.perp_base.specs.declared.options.Options.{Options}
 use Rattle.run_text.specs.Sections.{Split}
 use Rattle.perp_base.specs.View.{View}
 use Rattle.program_edge.specs.Ending.{Ended as EndedCall, IsOutOfMemory, IsStillOr, IsUsage as IsUsageOf}
@@ -19,8 +20,9 @@ use Rattle.tool_core.specs.Due.{IsDue, Took, call_of, due_for_test, parts_of}
 use Rattle.tool_core.specs.Texts.{IsJudged, IsOrdered, IsSkewText, IsVerdictText, IsWitnessed, options_of}
 use Rattle.tool_core.specs.Showing.{IsShowingText}
 use Rattle.tool_core.specs.Faithful.{IsFaithText}
+use Rattle.tool_core.specs.Counting.{IsCountText, RanAs, run_options}
 use Rattle.tool_core.specs.declared.words.Command.{Command}
-use Rattle.tool_core.specs.declared.words.Command.TheVariants.{Judge, Order, Witness, Verdict, Show, Faithful, Skew}
+use Rattle.tool_core.specs.declared.words.Command.TheVariants.{Judge, Order, Witness, Verdict, Show, Faithful, Skew, Count}
 use Rattle.tool_core.specs.declared.status.ToolStatus.{ToolStatus}
 use Rattle.tool_core.specs.declared.status.ToolStatus.TheVariants.{Core, NoSection, BadLine, TooLong, Events, SeveralWriters}
 
@@ -35,30 +37,26 @@ IsText Verdict test parts done text = IsStill done × IsVerdictText test text
 IsText Show test parts done text = IsStill done × IsShowingText test text
 IsText Faithful test parts done text = IsStill done × IsFaithText test text
 IsText (Skew n) test parts done text = IsSkewText test n done text
+IsText (Count job) test parts done text = IsCountText test job done text
 
--- the iterations of a command that runs the test on the field
-abbrev pub iterations_run : Command → Option ℕ
-iterations_run Judge = None
-iterations_run Order = None
-iterations_run (Witness n) = Some n
-iterations_run Verdict = None
-iterations_run Show = None
-iterations_run Faithful = None
-iterations_run (Skew n) = Some n
+-- how a command runs the test on the field, where it does
+abbrev pub options_run : Command → Option Options
+options_run Judge = None
+options_run Order = None
+options_run (Witness n) = Some (options_of n)
+options_run Verdict = None
+options_run Show = None
+options_run Faithful = None
+options_run (Skew n) = Some (options_of n)
+options_run (Count job) = run_options job.order job.options
 
 -- the command makes no step on the field
 abbrev pub IsStillCommand : Command → Type 0
-IsStillCommand command = iterations_run command ≡ None
+IsStillCommand command = options_run command ≡ None
 
 -- the command runs the test, and some run fits its field
 abbrev pub RanFor : Command → LitmusTest → Closed → Type 0
-RanFor Judge test done = ⊥
-RanFor Order test done = ⊥
-RanFor (Witness n) test done = SomeRunFits test (options_of n) done
-RanFor Verdict test done = ⊥
-RanFor Show test done = ⊥
-RanFor Faithful test done = ⊥
-RanFor (Skew n) test done = SomeRunFits test (options_of n) done
+RanFor command test done = RanAs (options_run command) test done
 
 -- the input has a litmus part that reads as this test, and this section, and no refusal is due
 pub record Accepts (command : Command) (input : List ℕ) (parts : Split) (test : LitmusTest) : Type 0 where
@@ -149,13 +147,26 @@ AsksForKinds Verdict = Unit {0}
 AsksForKinds Show = Unit {0}
 AsksForKinds Faithful = Unit {0}
 AsksForKinds (Skew n) = ⊥
+AsksForKinds (Count job) = Unit {0}
 
--- That a test is outside the profile is answered for `verdict`, `show` and `faithful` alone, and the limit of frames
--- for no command.
+-- the command that asks for the number of frames
+abbrev pub AsksForFrames : Command → Type 0
+AsksForFrames Judge = ⊥
+AsksForFrames Order = ⊥
+AsksForFrames (Witness n) = ⊥
+AsksForFrames Verdict = ⊥
+AsksForFrames Show = ⊥
+AsksForFrames Faithful = ⊥
+AsksForFrames (Skew n) = ⊥
+AsksForFrames (Count job) = Unit {0}
+
+-- That a test is outside the profile is answered for `verdict`, `show`, `faithful` and `count` alone, and the limit of
+-- frames for `count` alone.
 pub record SuitsCommand (words : List (List ℕ)) (status : ToolStatus) : Type 0 where
   pub outside_profile : (atom kind : ℕ) → status ≡ Core (OutsideProfile atom kind)
       → (command : Command) × (command_of words ≡ Some command) × AsksForKinds command
-  pub frames : status ≡ Core (Limit Frames) → ⊥
+  pub frames : status ≡ Core (Limit Frames)
+      → (command : Command) × (command_of words ≡ Some command) × AsksForFrames command
 
 -- the statuses before which the input was read to its end
 abbrev pub IsAfterReading : ToolStatus → Type 0
@@ -200,9 +211,9 @@ HasRun status = (status ≡ Core Whole) ⊎ (status ≡ Core WriteFault)
 -- Where a command runs the test, what the threads did on the field is what some legal run of x86-TSO does, in which
 -- each thread performs its body as often as the words ask; it ends with the field's words.
 abbrev pub RunFits : List (List ℕ) → View → Closed → ToolStatus → Type 0
-RunFits words old done status = (command : Command) (n : ℕ) (input : List ℕ) (test : LitmusTest)
-    → Told words old command input → iterations_run command ≡ Some n → HasRun status → Reads input (Accepted test)
-    → SomeRunFits test (options_of n) done
+RunFits words old done status = (command : Command) (options : Options) (input : List ℕ) (test : LitmusTest)
+    → Told words old command input → options_run command ≡ Some options → HasRun status → Reads input (Accepted test)
+    → SomeRunFits test options done
 
 -- the right answer to an input, of which `out` has this
 pub record HasAnswer (command : Command) (input : List ℕ) (done : Closed) (IsOn : List ℕ → Type 0) : Type 0 where

@@ -2,16 +2,18 @@
 use Rattle.std.specs.Prelude.{◌≤◌, ℕ, List, [], ◌∷◌, Option, Some, None, codes, if◌then◌else◌, option_map}
 use Rattle.std.specs.Str.{bytes_eq}
 use Rattle.perp_base.specs.declared.limits.TheConstants.{MOST_ITERATIONS}
-use Rattle.command_words.specs.Words.{iterations_in}
+use Rattle.command_words.specs.Job.{IsWithin}
+use Rattle.command_words.specs.Words.{count_in, iterations_in}
 use Rattle.tool_core.specs.declared.words.Command.{Command}
-use Rattle.tool_core.specs.declared.words.Command.TheVariants.{Judge, Order, Witness, Verdict, Show, Faithful, Skew}
+use Rattle.tool_core.specs.declared.words.Command.TheVariants.{Judge, Order, Witness, Verdict, Show, Faithful, Skew, Count}
 
 -- a command that takes no further word
 abbrev pub alone : Command → List (List ℕ) → Option Command
 alone command [] = Some command
 alone command (word ∷ rest) = None
 
--- the command of this name and the words after it: the number of iterations, 1 to 100,000, where the command takes it
+-- the command of this name and the words after it: the number of iterations, 1 to 100,000, where the command takes it,
+-- and for a count how it is made
 abbrev pub named_in : List ℕ → List (List ℕ) → Option Command
 named_in name words =
     if bytes_eq name (codes "judge") then alone Judge words
@@ -20,19 +22,21 @@ named_in name words =
     else if bytes_eq name (codes "verdict") then alone Verdict words
     else if bytes_eq name (codes "show") then alone Show words
     else if bytes_eq name (codes "faithful") then alone Faithful words
-    else if bytes_eq name (codes "skew") then option_map Skew (iterations_in words) else None
+    else if bytes_eq name (codes "skew") then option_map Skew (iterations_in words)
+    else if bytes_eq name (codes "count") then option_map Count (count_in words) else None
 
 -- the command that the words name, if any
 abbrev pub command_of : List (List ℕ) → Option Command
 command_of [] = None
 command_of (name ∷ words) = named_in name words
 
--- the number of iterations of a command is within its limits
-abbrev pub HasIterations : Command → Type 0
-HasIterations Judge = Unit {0}
-HasIterations Order = Unit {0}
-HasIterations (Witness n) = (1 ≤ n) × (n ≤ MOST_ITERATIONS)
-HasIterations Verdict = Unit {0}
-HasIterations Show = Unit {0}
-HasIterations Faithful = Unit {0}
-HasIterations (Skew n) = (1 ≤ n) × (n ≤ MOST_ITERATIONS)
+-- the numbers of a command are within their limits
+abbrev pub IsWithinItsLimits : Command → Type 0
+IsWithinItsLimits Judge = Unit {0}
+IsWithinItsLimits Order = Unit {0}
+IsWithinItsLimits (Witness n) = (1 ≤ n) × (n ≤ MOST_ITERATIONS)
+IsWithinItsLimits Verdict = Unit {0}
+IsWithinItsLimits Show = Unit {0}
+IsWithinItsLimits Faithful = Unit {0}
+IsWithinItsLimits (Skew n) = (1 ≤ n) × (n ≤ MOST_ITERATIONS)
+IsWithinItsLimits (Count job) = IsWithin job.options job.cut

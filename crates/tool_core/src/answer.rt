@@ -6,7 +6,7 @@ ghost use Rattle.tool_core.specs.Answering.{AnswerFits, AsksWithin, IsAnswerTo, 
 ghost use Rattle.tool_core.specs.Due.{IsDue, tool_program};
 ghost use Rattle.tool_core.specs.Status.{HasToolKind};
 ghost use Rattle.tool_core.specs.Top.{IsAnswer, IsStillOrRan};
-ghost use Rattle.tool_core.specs.Words.{HasIterations};
+ghost use Rattle.tool_core.specs.Words.{IsWithinItsLimits};
 
 use crate::parts::parts_in;
 use crate::status::ToolStatus;
@@ -29,7 +29,7 @@ fn answer_input<R: Threads + Sync, G: Gate>(
     field: Field,
     gate: &G,
 ) -> Answered<ToolStatus>
-    requires within { HasIterations command.now }
+    requires within { IsWithinItsLimits command.now }
     requires short { length input.now ≤ MOST_INPUT }
     ensures identity { result.done.identity ≡ field }
     ensures ok { IfOk result.text (λ text. IsAnswer command.now input.now result.done (string_bytes text)) }

@@ -1,5 +1,6 @@
 //! The second program as one call over a source, two sinks and a field: it judges written runs, finds and shows runs,
-//! gives verdicts, and tells how far apart the threads of a run were.
+//! gives verdicts, tells how far apart the threads of a run were, and counts the frames of a run that are outcomes of
+//! the test.
 //!
 //! The clause `whole` of [`tool`] says what stands on `out` where a command ends whole: the text that `IsText`
 //! (`specs/Top`, by the texts of `specs/Texts` and `specs/Showing`) calls right for the test and the section of the
@@ -14,6 +15,8 @@
 #![tactic(auto)]
 
 mod answer;
+mod counters;
+mod counting;
 mod faithful;
 mod judging;
 mod laws;

@@ -37,6 +37,7 @@ pub fn parts_in<'a>(command: &Command, input: &'a [u8]) -> Option<Section<'a>>
         | Command::Verdict
         | Command::Show
         | Command::Faithful
-        | Command::Skew(_) => Some(all_litmus(input)),
+        | Command::Skew(_)
+        | Command::Count(_) => Some(all_litmus(input)),
     }
 }

@@ -1,9 +1,9 @@
 //! The words of the second program.
 ghost use Rattle.std.specs.Prelude.{◌≡◌, ◌<◌, drop, length, IfOk, MatchResult};
 ghost use Rattle.program_edge.specs.View.{bytes_of};
-ghost use Rattle.tool_core.specs.Words.{HasIterations, alone, command_of};
+ghost use Rattle.tool_core.specs.Words.{IsWithinItsLimits, alone, command_of};
 
-use command_words::{WordsError, read_iterations};
+use command_words::{CountJob, WordsError, read_count, read_iterations};
 use std::alloc::Global;
 
 /// A command of the second program.
@@ -23,6 +23,8 @@ pub enum Command {
     Faithful,
     /// Run the test so often, and tell how far apart the threads were.
     Skew(u32),
+    /// Run or replay the test, and count the frames within which its condition holds.
+    Count(CountJob),
 }
 
 /// The command, where no word follows its name.
@@ -44,7 +46,7 @@ fn alone(words: &[String], command: Command) -> Result<Command, WordsError>
 pub fn read_words(alloc: Global, words: &[String]) -> Result<Command, WordsError>
     ensures ok { IfOk result (λ c. command_of (bytes_of words.now) ≡ Some c) }
     ensures usage { result ≡ Err WordsError.Usage → command_of (bytes_of words.now) ≡ None }
-    ensures within { IfOk result HasIterations }
+    ensures within { IfOk result IsWithinItsLimits }
 {
     if words.is_empty() {
         return Err(WordsError::Usage);
@@ -57,6 +59,7 @@ pub fn read_words(alloc: Global, words: &[String]) -> Result<Command, WordsError
         "show" => alone(words, Command::Show),
         "faithful" => alone(words, Command::Faithful),
         "skew" => Ok(Command::Skew(read_iterations(alloc, words)?)),
+        "count" => Ok(Command::Count(read_count(alloc, words)?)),
         _ => Err(WordsError::Usage),
     }
 }

@@ -1,14 +1,16 @@
 //! The work of a command on a test and a section: a text or a refusal, and the closed field.
 ghost use Rattle.std.specs.Prelude.{◌≡◌, ◌+◌, ◌<◌, ◌≤◌, ◌^◌, ◌⊎◌, length, IfOk, IfErr, None, Some, Err, string_bytes};
+ghost use Rattle.std.specs.Str.{IsAscii};
 ghost use Rattle.run_text.specs.Sections.{seen};
 ghost use Rattle.report_text.specs.declared.status.Status.TheVariants.{Memory};
 ghost use Rattle.program_edge.specs.Field.{IsStill};
 ghost use Rattle.tool_core.specs.Due.{due_for_test};
 ghost use Rattle.tool_core.specs.Status.{HasToolKind};
 ghost use Rattle.tool_core.specs.Top.{IsText, RanFor};
-ghost use Rattle.tool_core.specs.Words.{HasIterations};
+ghost use Rattle.tool_core.specs.Words.{IsWithinItsLimits};
 ghost use Rattle.perp_base.specs.declared.limits.TheConstants.{MOST_ITERATIONS};
 
+use crate::counting::count_on;
 use crate::faithful::faithful_on;
 use crate::judging::judge_section;
 use crate::ordering::order_section;
@@ -36,7 +38,8 @@ pub fn work<R: Threads + Sync, G: Gate>(
     field: Field,
     gate: &G,
 ) -> Answered<ToolStatus>
-    requires within { HasIterations command.now }
+    requires ascii { IsAscii test.name }
+    requires within { IsWithinItsLimits command.now }
     requires iterations { section.now.iterations ≤ MOST_ITERATIONS }
     requires line { 1 ≤ section.now.line }
     requires short { section.now.line + length section.now.lines.now < 2 ^ 32 }
@@ -57,6 +60,7 @@ pub fn work<R: Threads + Sync, G: Gate>(
         Command::Faithful => Answered::still(faithful_on(alloc, test), field),
         Command::Skew(n) => skew_run(rt, alloc, &test, *n, field, gate),
         Command::Witness(n) => witness_run(rt, alloc, &test, *n, field, gate),
+        Command::Count(job) => count_on(rt, alloc, job, test, field, gate),
         Command::Order => Answered::still(order_section(alloc, &test, section), field),
     }
 }
