@@ -45,7 +45,7 @@ fn cond_holds_at(cond: &Cond, logs: &Logs, frame: &Frame, m: u32) -> bool
 }
 
 /// Whether each condition holds, where the last thread is in iteration `m`.
-fn all_hold_at(conds: &[Cond], logs: &Logs, frame: &Frame, m: u32) -> bool
+pub(crate) fn all_hold_at(conds: &[Cond], logs: &Logs, frame: &Frame, m: u32) -> bool
     requires { (n : ℕ) × (m < n) × IsFrameOf logs.now.logs n frame.now × All (IsGood logs.now.logs) conds.now }
     ensures { result ≡ list_all (cond_holds (value_at logs.now.logs) (with_last frame.now m)) conds.now }
 {
@@ -58,7 +58,7 @@ fn all_hold_at(conds: &[Cond], logs: &Logs, frame: &Frame, m: u32) -> bool
 }
 
 /// Whether the conditions of some conjunction hold, where the last thread is in iteration `m`.
-pub(crate) fn holds_at(conds: &Conds, logs: &Logs, frame: &Frame, m: u32) -> bool
+fn holds_at(conds: &Conds, logs: &Logs, frame: &Frame, m: u32) -> bool
     requires frame { (n : ℕ) × (m < n) × IsFrameOf logs.now.logs n frame.now }
     requires names { All (IsOfLogs logs.now.logs) conds.now.conds }
     ensures { result ≡ frame_holds conds.now logs.now.logs (with_last frame.now m) }

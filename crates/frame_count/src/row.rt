@@ -10,7 +10,7 @@ ghost use Rattle.frame_count.specs.Row.{Leaves, holds_along, left_along, mask_al
 ghost use Rattle.frame_count.specs.Rows.{IsRow, row_holds};
 ghost use Rattle.perp_base.specs.declared.limits.TheConstants.{MOST_ITERATIONS};
 
-use crate::at_frame::holds_at;
+use crate::at_frame::all_hold_at;
 use crate::known::Known;
 use crate::lanes::{bound, own_word, values_word};
 use crate::reach::{hull, reaches};
@@ -105,6 +105,23 @@ fn all_word(conds: &[Cond], logs: &Logs, frame: &Frame, stretch: Stretch, at: us
     }
 }
 
+/// Whether the conditions of a conjunction hold in iteration `m` of the last thread: outside of its stretch nothing is
+/// tested.
+fn all_hold_in(conds: &[Cond], logs: &Logs, frame: &Frame, stretch: Stretch, m: usize) -> bool
+    requires frame { (n : ℕ) × (m < n) × IsFrameOf logs.now.logs n frame.now × All (IsGood logs.now.logs) conds.now }
+    requires few { m < 2 ^ 32 }
+    requires stretch { (n : ℕ) × (m < n) × Leaves n logs.now.logs frame.now conds.now stretch }
+    ensures { result ≡ list_all (holds_along logs.now.logs frame.now m) conds.now }
+{
+    if !stretch.has(m) {
+        false
+    } else if stretch.is_settled() {
+        true
+    } else {
+        all_hold_at(conds, logs, frame, m as u32)
+    }
+}
+
 /// A row of frames: the conditions, the logs, a frame with the iterations of all threads but the last, and the stretch
 /// of each conjunction.
 #[derive(Clone, Copy)]
@@ -129,6 +146,20 @@ impl<'a> Row<'a> {
         word
     }
 
+    /// Whether the conditions of some conjunction hold in iteration `m` of the last thread.
+    fn holds_in(&self, m: usize) -> bool
+        requires { (to : ℕ) × (m < to) × IsRow self.now to }
+        ensures { result ≡ row_holds self.now m }
+    {
+        for c in 0..self.conds.conjunctions() {
+            let (conds, stretch) = (self.conds.group(c), self.stretches[c]);
+            if all_hold_in(conds, self.logs, self.frame, stretch, m) {
+                return true;
+            }
+        }
+        false
+    }
+
     /// At how many iterations from `from` up to and without `to` the conditions of some conjunction hold, one by one.
     fn count_singly(&self, from: usize, to: usize) -> u64
         requires row { (from ≤ to) × IsRow self.now to }
@@ -137,7 +168,7 @@ impl<'a> Row<'a> {
         let mut total = 0u64;
         let mut at = from;
         while at < to {
-            total += holds_at(self.conds, self.logs, self.frame, at as u32) as u64;
+            total += self.holds_in(at) as u64;
             at += 1;
         }
         total

@@ -6,9 +6,9 @@ use Rattle.frame_count.proofs.Counts.{byte_one, counted_fits, counted_more}
 use Rattle.frame_count.proofs.row.Row.count_singly.Goals as goal
 
 -- this iteration counts 1 or 0
-one : (c : goal.After-holds_at) → bool_byte c.holds_at.result
+one : (c : goal.After-holds_in) → bool_byte c.holds_in.result
     ≡ count_by (row_holds c.args.self.now) (range_with_len c.loop-at.at 1)
-one c = ap bool_byte c.holds_at.ensures ∙ byte_one (row_holds c.args.self.now) c.loop-at.at
+one c = ap bool_byte c.holds_in.ensures ∙ byte_one (row_holds c.args.self.now) c.loop-at.at
 
 pub overflow_add-total : goal.overflow_add-total
 overflow_add-total c =
