@@ -21,14 +21,15 @@ class Commands:
     def __init__(self, program):
         text = advice.page("COMMANDS.md")
         about = advice.part(text, "`%s`" % program) or advice.part(text, "`./%s`" % program)
-        first, self.values, self.own = about.split("\n\n")[0], {}, {}
-        for cell, means in advice.rows(first):
+        self.values, self.own = {}, {}
+        for cell, means in advice.rows(about.split("\n\n")[0]):
             command, *values = cell.strip("`").split()
             self.values[command] = values
             self.own[command] = re.findall(r"`--(\w+) \w+`", means)
+        taking = re.search(r"((?:`\w+`(?:, | and )?)+) take these options", about)
+        self.taking = re.findall(r"`(\w+)`", taking[1]) if taking else []
         self.iterations = limits_in(re.search(r"N is [^.]*", text)[0])
         self.options = dict(option_of(row) for row in advice.rows(about) if row[0].startswith("`--"))
-        self.taking = re.findall(r"`(\w+)`", found[1]) if (found := re.search(r"((?:`\w+`(?:, | and )?)+) take these options", about)) else []
 
     def options_for(self, command):
         """The names of a command's options, each with its choices or its limits."""
@@ -115,31 +116,31 @@ class Line:
         choices = self.options[name]
         return "one of `%s`" % "`, `".join(choices) if isinstance(choices, list) else between(choices)
 
+    def value(self, at, left):
+        """Takes the value that is the next of those that are left; the fault, if there is one."""
+        if not left:
+            return at, "this is a word too many: `%s` takes %s" % (self.command, " and ".join(self.values) or "no further word")
+        name = left.pop(0)
+        limits = self.limits.get(name, (0, GREATEST))
+        return None if is_number(self.words[at], limits) else (at, "%s is %s" % (name, between(limits)))
+
     def fault(self):
+        """The number of the first wrong word and what would be right; or None."""
         at, values = 1, list(self.values)
         while at < len(self.words):
             word = self.words[at]
-            if word.startswith("--") and len(word) > 2 or word == "-h":
-                at, fault = self.option(at) if word != "-h" else (None, (at, "options begin with two hyphens"))
-                if fault:
-                    return fault
-                continue
-            if word.startswith("-"):
-                return at, "options begin with two hyphens and have a name; a number has no hyphen"
-            if not values:
-                return at, "this is a word too many: `%s` takes %s" % (self.command, self.all_values())
-            limits = self.limits.get(values[0], (0, GREATEST))
-            if not is_number(word, limits):
-                return at, "%s is %s" % (values[0], between(limits))
-            values.pop(0)
-            at += 1
+            if re.match("--.", word):
+                at, fault = self.option(at)
+            elif word.startswith("-"):
+                fault = at, "options begin with two hyphens and have a name; a number has no hyphen"
+            else:
+                at, fault = at + 1, self.value(at, values)
+            if fault:
+                return fault
         if values:
             limits = self.limits.get(values[0], (0, GREATEST))
             return at, "here %s is missing: %s" % (values[0], between(limits))
         return None
-
-    def all_values(self):
-        return " and ".join(self.values) or "no further word"
 
 
 def fault_in(program, words):

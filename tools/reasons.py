@@ -14,7 +14,9 @@ MOST_SHOWN = 100  # the columns of a line that are shown around its mark
 EVENTS, LOGS, EXECUTION = b"%events", b"%logs", b"%execution"
 SECTIONS = {"judge": EVENTS, "order": LOGS, "check": EXECUTION}
 HEXADECIMAL = rb"\$?0[xX][0-9A-Fa-f]"
-SIZED = rb"(?i)\b(r[a-ds]?[a-ds0-9][xpi0-9]?[dwb]?|e[bs]p|[a-d][xhl]|[bs]pl?|[ds]il?)\b"
+SECTION_LINE = rb"(?m)^[ \t]*%(?:events|logs)[ \t]+([0-9]+)[ \t\r]*$"
+# registers that are not read: those of 64, 16 and 8 bits, and those of the stack
+NO_REGISTER = rb"(?i)(?<!\[)\b(r([abcd]x|[sd]i|[sb]p|[0-9]+[dwb]?)|e[sb]p|[abcd][xlh]|[sd]il?|[sb]pl?)\b"
 
 # where something is met: its first byte in the whole input, or None, and how many bytes of it are marked
 Place = collections.namedtuple("Place", "at size")
@@ -42,7 +44,7 @@ CAUSES = (
     Cause(4, "a register of a thread", begins(rb"[0-9]+\s*:")),
     Cause(5, "`filter`", lambda where: re.search(rb"\bfilter\b", where.text) is not None),
     Cause(6, "a hexadecimal number", lambda where: re.search(HEXADECIMAL, cell_in(where)) is not None),
-    Cause(6, "a register of another size", lambda where: re.search(SIZED, cell_in(where)) is not None),
+    Cause(6, "a register of another size", lambda where: re.search(NO_REGISTER, cell_in(where)) is not None),
     Cause(6, "`LOCK XCHG`", begins(rb"(?i)lock\s")),
     Cause(6, "`SFENCE` or `LFENCE`", begins(rb"(?i)[sl]fence\b")),
     Cause(8, "a hexadecimal number", has(HEXADECIMAL)),
@@ -52,6 +54,7 @@ CAUSES = (
     Cause(12, "a hexadecimal number", has(HEXADECIMAL)),
     Cause(12, "a section line", begins(rb"%\w+")),
     Cause("Refusals", "a litmus text without a final line feed", lambda where: re.search(rb"[^\s]%(events|logs)", where.text) is not None),
+    Cause("Refusals", "the section of another command", lambda where: any(map(judging.iterations, re.findall(SECTION_LINE, where.text)))),
     Cause("Refusals", "a section line with no number", lambda where: re.search(rb"(?m)^\s*%(events|logs)\b", where.text) is not None),
     Cause("Refusals", "no section at all", lambda where: re.search(rb"%(events|logs)", where.text) is None),
 )
