@@ -211,7 +211,8 @@ class Program:
             top = self.top + self.block * (thread // self.columns)
             self.drawing.text(self.left(thread), top, "P%d" % thread, bold=True)
             for number, row in enumerate(self.text.rows):
-                self.drawing.text(self.left(thread), top + ROW * (number + 1), row[thread])
+                if row[thread]:
+                    self.drawing.text(self.left(thread), top + ROW * (number + 1), row[thread])
         for node in sorted(marked):
             left = self.left(node[0]) - 5
             self.drawing.box(left, self.y(node) - 16, self.right(node) - left + 5, 23, PALE)
