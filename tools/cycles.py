@@ -79,10 +79,12 @@ class Reasons:
         return self.test.bodies[node[0]][node[1]]
 
     def words(self, node):
-        action = self.action(node)
+        """An action in words; a read is told by its register where its thread reads the location again."""
+        action, body = self.action(node), self.test.bodies[node[0]]
         location = "" if action.loc is None else self.test.locations[action.loc]
+        again = sum(other.kind == "load" and other.loc == action.loc for other in body) > 1
         return "P%d's %s" % (node[0], {
-            "store": "write of %s to %s" % (action.value, location), "load": "read of " + location,
+            "store": "write of %s to %s" % (action.value, location), "load": "read of " + location + (" into %s" % action.reg.upper() if again and action.reg else ""),
             "exchange": "exchange of %s for %s" % (location, action.value), "fence": "fence"}[action.kind])
 
     def is_write(self, node):
@@ -94,7 +96,7 @@ class Reasons:
         else:
             name, why = self.across(group, first, second, sides)
         comes = "reaches memory before" if self.action(first).kind == "store" else "comes before"
-        reaches = " reaches memory" if self.action(second).kind == "store" else ""
+        reaches = "" if self.action(second).kind != "store" else " does" if self.action(first).kind == "store" else " reaches memory"
         return Edge(first, second, name, "%s %s %s%s: %s." % (self.words(first), comes, self.words(second), reaches, why))
 
     def kept(self, first, second):
@@ -211,7 +213,8 @@ class Program:
             top = self.top + self.block * (thread // self.columns)
             self.drawing.text(self.left(thread), top, "P%d" % thread, bold=True)
             for number, row in enumerate(self.text.rows):
-                self.drawing.text(self.left(thread), top + ROW * (number + 1), row[thread])
+                if row[thread]:
+                    self.drawing.text(self.left(thread), top + ROW * (number + 1), row[thread])
         for node in sorted(marked):
             left = self.left(node[0]) - 5
             self.drawing.box(left, self.y(node) - 16, self.right(node) - left + 5, 23, PALE)

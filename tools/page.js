@@ -305,7 +305,7 @@
         slider, make("span", { id: "step" })), words);
     $("machine").append(
       make("div", { className: "bar" }, button("anew", "Explore from the beginning", anew), button("random", "A random event", random)),
-      make("p", { className: "note" }, "Keys: left and right for a step, Home and End, space to play. At each step any event that may come next can be taken."));
+      make("p", { className: "note keys" }, "Keys: left and right for a step, Home and End, space to play. At each step any event that may come next can be taken."));
   }
 
   function anew() {

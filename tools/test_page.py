@@ -126,7 +126,7 @@ class Page:
         return alone, cycles.Reasons(alone).read(out)[0], ""
 
     def verdict(self):
-        """One word, a sentence, and whether it is proved."""
+        """A word, and the sentence that says on whose word it is."""
         status, out, err = self.answer
         if status == 0 and out.startswith("%events"):
             return "Allowed", "perple_tool show gives a legal run with this outcome, so x86-TSO allows it."
@@ -137,7 +137,7 @@ class Page:
             return "Open", said
         if any(row.has_condition for row in self.rows):
             return "Allowed", said + " The page's maker found a run, and perple_tool judge calls it legal."
-        return "Forbidden", said + " The page's maker found no such outcome; that is not proved."
+        return "Not found", said + " The page's maker found no execution with this outcome; that is not proved."
 
 
 # ---- what is written
@@ -193,16 +193,22 @@ def outcome_table(page):
         cells = [element("th", str(number), scope="row")] + [element("td", str(value)) for value in row.values]
         rows.append(element("tr", "".join(cells) + element("td", " ".join(marks)), id="row%d" % number,
                             class_="has" if row.has_condition else "other"))
-    for group, *_ in page.reasons:
+    for group, _, tree, _ in page.reasons:
         words = element("code", escape(condition_of(page.test.conjunctions()[group])))
+        word = "forbidden" if tree else "not found"
         rows.append(element("tr", element("th", "") + element(
-            "td", '%s <a href="#why%d">%s</a>' % (words, group, mark("forbidden", "why")), colspan=len(page.registers) + 1), class_="never"))
+            "td", '%s <a href="#why%d">%s</a>' % (words, group, mark(word, "why")), colspan=len(page.registers) + 1), class_="never"))
     return '<div class="rows"><table id="outcomes"><thead><tr>%s</tr></thead>\n<tbody>%s</tbody></table></div>' % (
         "".join(element("th", word, scope="col") for word in head), "\n".join(rows))
 
 
 def mark(word, title):
-    return element("span", word, class_="mark " + word, title=title)
+    return element("span", word, class_="mark " + look_of(word), title=title)
+
+
+def look_of(word):
+    """The style's name of a verdict or a mark."""
+    return word.lower().replace(" ", "-")
 
 
 def notes(page):
@@ -233,9 +239,9 @@ def leaf(text, reasons, tree):
 
 
 def why(page, group, text, tree, said):
-    title = element("h3", "Why never: " + element("code", escape(condition_of(page.test.conjunctions()[group]))))
+    title = element("h3", ("Why never: " if tree else "Not found: ") + element("code", escape(condition_of(page.test.conjunctions()[group]))))
     if tree is None:
-        body = element("p", escape("perple_tool show says: %s. The page's maker found no run with it; that is not proved." % said))
+        body = element("p", escape("perple_tool show says: %s. The page's maker found no execution with it; that is not proved." % said))
     else:
         reasons, parts = cycles.Reasons(text), []
         found = list(cycles.leaves(tree))
@@ -306,7 +312,7 @@ def html(page, style=None, home=""):
             "<title>%s</title>\n%s" % (escape(text.test.name), looks))
     quantified = " The test asks that it never happens." if text.test.negated else ""
     link = ' <a href="#why%d">Why?</a>' % page.reasons[0][0] if page.reasons else ""
-    verdict = '<p class="verdict"><b class="%s">%s.</b> %s%s</p>' % (word.lower(), word, escape(said + quantified), link)
+    verdict = '<p class="verdict"><b class="%s">%s.</b> %s%s</p>' % (look_of(word), word, escape(said + quantified), link)
     title = '<header>%s<h1>%s</h1><p>%s</p>%s</header>' % (home, escape(text.test.name), escape(text.comment), verdict)
     asked = '<p id="condition"><code>%s</code></p>' % escape(text.condition)
     left = '<section id="machine">%s\n<div id="controls"></div>\n%s</section>' % (asked, program_table(text))
