@@ -1,9 +1,8 @@
-"""Every outcome of a test as it is written, and a run for each, by exploring the machine of bench/operational.py. Nothing here is proved:
+"""Every outcome of a test as it is written, and a run for each, by exploring the machine of tools/operational.py. Nothing here is proved:
 the tools have their runs judged by `perple_tool judge`, and ask `perple_tool show` first."""
 import collections
 import sys
 
-import program_text  # noqa: F401  (it says where the models stand)
 import judging
 import litmus
 import operational

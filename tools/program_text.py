@@ -1,13 +1,7 @@
 """A test as it is written: its comment, the rows of its code, the instruction of each action, and its condition."""
-import os
 import re
-import sys
 
-import programs
-
-# The models stand in tools/ or, as yet, in bench/: the tools' own folder comes first.
-sys.path.append(os.path.join(programs.TOP, "bench"))
-import litmus  # noqa: E402
+import litmus
 
 
 def without_comments(text):
