@@ -14,3 +14,5 @@ pub mod ColumnCounts
 pub mod RunWidths
 pub mod RunJudged
 pub mod Repeats
+pub mod Counted
+pub mod CountLaws

@@ -112,7 +112,7 @@ verdict_text_once test a b p q =
 -- ---- two calls
 
 -- what a call wrote is an answer to its input
-answer_in : (words : List (List ℕ)) (command : Command) (input text : List ℕ) → command_of words ≡ Some command
+pub answer_in : (words : List (List ℕ)) (command : Command) (input text : List ℕ) → command_of words ≡ Some command
     → (call : CallOf words input text) → IsAnswer command input call.done text
 answer_in words command input text is call =
     let has = call.whole command input call.before (record { command_is = is; told = call.told }) call.held refl in

@@ -3,7 +3,15 @@ use Rattle.std.specs.Prelude.{◌≡◌, ◌⊎◌, ℕ, ◌≤◌, List, ◌++�
 use Rattle.perp_base.specs.declared.limits.TheConstants.{MOST_BYTES, MOST_ITERATIONS}
 use Rattle.perp_base.specs.View.{View}
 use Rattle.x86_subset.specs.Test.{LitmusTest}
+use Rattle.tso_machine.specs.Event.{Event}
 use Rattle.tso_machine.specs.Run.{IsRunOf}
+use Rattle.perp_base.specs.declared.options.Options.{Options}
+use Rattle.profile_check.specs.Profile.{CheckedTest, IsChecked}
+use Rattle.outcome_conv.specs.Hits.{hits_of}
+use Rattle.litmus_outcomes.specs.Outcome.{IsAllowed}
+use Rattle.frames_within.specs.Loose.{IsFaithful}
+use Rattle.command_words.specs.Job.{AskedCount}
+use Rattle.tool_core.specs.Counting.{within_count_of}
 use Rattle.litmus_reader.specs.Answer.{Accepted}
 use Rattle.litmus_reader.specs.Reading.{Reads}
 use Rattle.report_text.specs.Words.{number_line}
@@ -19,7 +27,7 @@ use Rattle.verdict.specs.declared.node.Node.{Node}
 use Rattle.tool_core.specs.Texts.{forbidden_text}
 use Rattle.tool_core.specs.Top.{IsAnswer, WritesWhole}
 use Rattle.tool_core.specs.Words.{command_of}
-use Rattle.tool_core.specs.declared.words.Command.TheVariants.{Judge, Verdict}
+use Rattle.tool_core.specs.declared.words.Command.TheVariants.{Count, Judge, Verdict}
 use Rattle.tool_core.specs.declared.status.ToolStatus.TheVariants.{Core}
 
 -- for the command judge no refusal is due for the input, and this text answers it, and no other does
@@ -73,3 +81,21 @@ AreVerdictsOfOne a b = (a ≡ b) ⊎ (TellsCycles a × TellsCycles b)
 abbrev pub VerdictsAreRepeated : Type 0
 VerdictsAreRepeated = (words : List (List ℕ)) (input a b : List ℕ)
     → command_of words ≡ Some Verdict → CallOf words input a → CallOf words input b → AreVerdictsOfOne a b
+
+-- ---- counts
+
+-- law: where `count` writes that the condition was seen, x86-TSO allows what it asks for
+abbrev pub SeenWithinIsAllowed : Type 0
+SeenWithinIsAllowed = (words : List (List ℕ)) (input before : List ℕ) (job : AskedCount) (test : LitmusTest)
+    → command_of words ≡ Some (Count job)
+    → Reads input (Accepted test)
+    → CallOf words input (before ++ codes "Seen yes\n")
+    → IsAllowed test
+
+-- law: of a run of a faithful test it counts the frames that are hits, as the exhaustive count does
+abbrev pub FaithfulCountsAreHits : Type 0
+FaithfulCountsAreHits = (checked : CheckedTest) (options : Options) (run : List Event)
+    → IsChecked checked
+    → IsFaithful checked
+    → IsRunOf checked.test options.iterations run
+    → within_count_of checked options run ≡ length (hits_of checked.test checked.kinds options.iterations run)

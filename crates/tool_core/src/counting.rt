@@ -51,6 +51,37 @@ fn within<R: Threads + Sync>(
     )
 }
 
+/// What is reported of each run that has these logs.
+fn rows<R: Threads + Sync>(
+    rt: &R,
+    alloc: Global,
+    job: &CountJob,
+    checked: &Checked,
+    counters: &Counters,
+    logs: &Logs,
+    frames: u64,
+) -> Result<CountReport, NoMemory>
+    requires frames { frames ≡ frame_count_of checked.now.test job.now.options }
+    requires few { frames ≤ MOST_FRAMES }
+    requires counters { AreCountersOf checked.now counters.now }
+    requires logs { AreOfSomeRun checked.now.test job.now.options logs.now.logs }
+    ensures name { IfOk result (λ rows. rows.name ≡ checked.now.test.name) }
+    ensures rows { IfOk result (λ rows. (run : List Event) → HasLogs checked.now.test job.now.options.iterations run logs.now.logs
+        → rows ≡ count_rows_of checked.now.test job.now.options (within_count_of checked.now job.now.options run)) }
+{
+    let test = checked.test();
+    let name = Name::of(alloc, test.name().bytes())?;
+    Ok(CountReport {
+        name,
+        threads: test.threads() as u32,
+        iterations: job.options.iterations,
+        negated: is_negated(test.quantifier()),
+        atoms: test.atoms().len() as u32,
+        frames,
+        within: within(rt, job, checked, counters, logs),
+    })
+}
+
 /// The report of each run that has these logs.
 fn report<R: Threads + Sync>(
     rt: &R,
@@ -69,16 +100,7 @@ fn report<R: Threads + Sync>(
     ensures { IfOk result (λ text. (run : List Event) → HasLogs checked.now.test job.now.options.iterations run logs.now.logs
         → string_bytes text ≡ count_text_of checked.now job.now.options run) }
 {
-    let test = checked.test();
-    let rows = CountReport {
-        name: Name::of(alloc, test.name().bytes())?,
-        threads: test.threads() as u32,
-        iterations: job.options.iterations,
-        negated: is_negated(test.quantifier()),
-        atoms: test.atoms().len() as u32,
-        frames,
-        within: within(rt, job, checked, counters, logs),
-    };
+    let rows = rows(rt, alloc, job, checked, counters, logs, frames)?;
     count_report(alloc, &rows)
 }
 

@@ -1,5 +1,5 @@
 //! What the commands say of texts that are written for them.
-ghost use Rattle.tool_core.specs.Laws.{JudgementsAreRepeated, VerdictsAreRepeated, WrittenRunsAreLegal};
+ghost use Rattle.tool_core.specs.Laws.{FaithfulCountsAreHits, JudgementsAreRepeated, SeenWithinIsAllowed, VerdictsAreRepeated, WrittenRunsAreLegal};
 
 /// A legal run of a test that is written after the test's text is called legal.
 pub fn written_runs_are_legal()
@@ -14,4 +14,14 @@ pub fn judgements_are_repeated()
 /// Two such calls of `verdict` write the same text, but for which cycles they tell where each conjunction has one.
 pub fn verdicts_are_repeated()
     ensures { VerdictsAreRepeated }
+{}
+
+/// Where `count` writes that the condition was seen, x86-TSO allows it, whatever the test is.
+pub fn seen_within_is_allowed()
+    ensures { SeenWithinIsAllowed }
+{}
+
+/// Of a faithful test it counts the hits of the run.
+pub fn faithful_counts_are_hits()
+    ensures { FaithfulCountsAreHits }
 {}

@@ -11,7 +11,8 @@
 //! (`specs/Laws`) says that where a legal run of a test is written after the test's text, no refusal is due, and
 //! `Legal` with the number of its events is the one right answer. By `judgements_are_repeated` and
 //! `verdicts_are_repeated` the same words and the same input give the same text again, but for the cycles of a verdict,
-//! of which any are right.
+//! of which any are right. Where `count` writes `Seen yes` x86-TSO allows the condition (`seen_within_is_allowed`), and
+//! of a faithful test it counts the hits (`faithful_counts_are_hits`).
 #![tactic(auto)]
 
 mod answer;
@@ -37,7 +38,10 @@ mod work;
 mod writers;
 
 pub use answer::answer_text;
-pub use laws::{judgements_are_repeated, verdicts_are_repeated, written_runs_are_legal};
+pub use laws::{
+    faithful_counts_are_hits, judgements_are_repeated, seen_within_is_allowed,
+    verdicts_are_repeated, written_runs_are_legal,
+};
 pub use perp_loop::{Gate, NoGate};
 pub use program_edge::{Answered, Request};
 pub use report_text::{Over, Status};
