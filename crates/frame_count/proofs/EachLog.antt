@@ -1,5 +1,5 @@
 -- Logs of one column are whole, and what the tests of rings ask of them is what counts ask.
-use Rattle.std.proofs.Common.{◌≡◌, ℕ, ◌*◌, ◌<◌, List, [], All, get_or, length, sym, ap, ◌∙◌, arith}
+use Rattle.std.proofs.Common.{◌≡◌, ℕ, ◌*◌, List, [], All, get_or, sym, ap, ◌∙◌, arith}
 use Rattle.load_log.specs.Values.{AreWhole, Values}
 use Rattle.outcome_conv.specs.declared.cond.Cond.{Cond}
 use Rattle.frame_count.specs.Count.{IsOfLogs}

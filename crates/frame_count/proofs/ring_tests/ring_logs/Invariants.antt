@@ -1,4 +1,4 @@
-use Rattle.std.proofs.Common.{◌≡◌, ◌+◌, length}
+use Rattle.std.proofs.Common.{◌≡◌, ◌+◌}
 use Rattle.frame_count.specs.RingLogs.{HasEach}
 use Rattle.frame_count.proofs.ring_tests.ring_logs.Given as goal
 

@@ -1,6 +1,6 @@
-use Rattle.std.proofs.Common.{◌≡◌, ◌&&◌, sym, ap, ◌∙◌}
+use Rattle.std.proofs.Common.{◌&&◌, sym, ap, ◌∙◌}
 use Rattle.std.specs.List.{list_all}
-use Rattle.frame_count.specs.Row.{is_within, left_along}
+use Rattle.frame_count.specs.Row.{left_along}
 use Rattle.frame_count.proofs.Reaches.{left_settled}
 use Rattle.frame_count.proofs.row.all_hold_in.Goals as goal
 

@@ -1,4 +1,4 @@
-use Rattle.std.proofs.Common.{◌≡◌, ◌+◌, length, ◌∙◌, arith}
+use Rattle.std.proofs.Common.{◌∙◌, arith}
 use Rattle.frame_count.proofs.BlockCounts.{last_count, others_fail}
 use Rattle.frame_count.proofs.block.Place.last.Goals as goal
 
