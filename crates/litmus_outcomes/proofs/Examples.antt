@@ -125,7 +125,7 @@ exchanging = step 0 (Exchanges 0 0 5) ∷ []
 
 exchanging_ends : AllowsAll start exchanging × ((end_of start exchanging).memory 0 ≡ 5)
     × (final_value exchanges exchanging 0 Eax ≡ Some 0)
-exchanging_ends = (((refl, refl), tt), (refl, refl))
+exchanging_ends = (((refl, refl), tt), refl, refl)
 
 -- Of two threads that exchange x both cannot read 0. Exchanges in place of the stores forbid what store buffering allows.
 
