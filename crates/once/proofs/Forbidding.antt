@@ -498,4 +498,4 @@ trees_forbid_lem checked c run tree h refutes shown =
     trees_forbid_within_lem checked 1 c run (zeros test) tree h shown.0 (zeros_frame test) refutes
     (all_from (holds_within test run (zeros test)) kinds (each_from_among Q kinds (λ kind am.
     within_once test run kind shown.0 (each_among (Tells test) kind kinds am (kinds_tell checked c h))
-    (each_among P kind kinds am (each_all (holds_in test run (zeros test)) kinds shown.1))))
+    (each_among P kind kinds am (each_all (holds_in test run (zeros test)) kinds shown.1)))))

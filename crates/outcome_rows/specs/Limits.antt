@@ -7,6 +7,7 @@ use Rattle.outcome_rows.specs.declared.rows.Stop.TheVariants.{GaveUp, TooMany}
 use Rattle.outcome_rows.specs.Listing.{AnswersBy, AnswersFronts, AreAllRows, ListsRows, columns_of_values, front_with, gone_on}
 use Rattle.outcome_rows.specs.Rows.{HoldReads, Register}
 
+-- what is said where there are too many, and where an answer was not given
 abbrev pub IsStop : Type 0 → Type 0 → Stop → Type 0
 IsStop many gave_up TooMany = many
 IsStop many gave_up GaveUp = gave_up
@@ -21,25 +22,29 @@ GiveUp answers fronts = (n : ℕ) → Each (λ row. length row + 1 ≤ n) fronts
 
 -- ---- a front part
 
+-- to the old rows come those that go on with this front part, and the limit is kept
 abbrev pub KeepsFront : (List ℕ → Option Bool → Type 0) → ℕ → List ℕ → List ℕ → List (List ℕ) → List (List ℕ) → Type 0
 KeepsFront answers limit front values old new =
     ((n : ℕ) (p : List ℕ → Bool) → length front + 1 ≤ n → AnswersBy answers n p
     → new ≡ old ++ front_with p front values)
     × (length old ≤ limit → length new ≤ limit)
 
+-- with those that go on with this front part there are more rows than the limit
 abbrev pub IsManyFront : (List ℕ → Option Bool → Type 0) → ℕ → List ℕ → List ℕ → List (List ℕ) → Type 0
 IsManyFront answers limit front values old =
     (n : ℕ) (p : List ℕ → Bool) → length front + 1 ≤ n → AnswersBy answers n p
     → limit < length (old ++ front_with p front values)
 
--- ---- front parts of at most k values
+-- ---- all front parts
 
+-- the new rows are those that go on with these front parts, and the limit is kept
 abbrev pub KeepsFronts : (List ℕ → Option Bool → Type 0) → ℕ → List (List ℕ) → List ℕ → List (List ℕ) → Type 0
 KeepsFronts answers limit fronts values new =
     ((n : ℕ) (p : List ℕ → Bool) → Each (λ row. length row + 1 ≤ n) fronts → AnswersBy answers n p
     → new ≡ gone_on p values fronts)
     × (length new ≤ limit)
 
+-- more rows than the limit go on with these front parts
 abbrev pub IsManyFronts : (List ℕ → Option Bool → Type 0) → ℕ → List (List ℕ) → List ℕ → Type 0
 IsManyFronts answers limit fronts values =
     (n : ℕ) (p : List ℕ → Bool) → Each (λ row. length row + 1 ≤ n) fronts → AnswersBy answers n p

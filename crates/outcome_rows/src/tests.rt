@@ -4,12 +4,13 @@ use std::alloc::Global;
 use std::test::Fail;
 
 /// A test of two registers: the values that can come in each, and its rows.
+#[derive(Clone, Copy)]
 struct Listing {
     values: &'static [u32],
     rows: &'static [[u32; 2]],
 }
 
-fn listing(values: &'static [u32], rows: &'static [[u32; 2]]) -> Listing {
+fn test_of(values: &'static [u32], rows: &'static [[u32; 2]]) -> Listing {
     Listing { values, rows }
 }
 
@@ -41,10 +42,10 @@ fn columns(alloc: Global, listing: &Listing) -> Result<Vec<Vec<u32>>, Fail> {
 fn rows_and_limits(rt: HostRuntime) -> Result<(), Fail> {
     let alloc = rt.alloc();
     let tests = [
-        listing(&[0, 1], &[[0, 0], [0, 1], [1, 0], [1, 1]]),
-        listing(&[0, 1], &[[0, 1], [1, 0], [1, 1]]),
-        listing(&[0, 1], &[[0, 0], [0, 1], [1, 1]]),
-        listing(
+        test_of(&[0, 1], &[[0, 0], [0, 1], [1, 0], [1, 1]]),
+        test_of(&[0, 1], &[[0, 1], [1, 0], [1, 1]]),
+        test_of(&[0, 1], &[[0, 0], [0, 1], [1, 1]]),
+        test_of(
             &[0, 1, 2],
             &[[0, 0], [0, 1], [0, 2], [1, 1], [1, 2], [2, 1], [2, 2]],
         ),

@@ -34,13 +34,14 @@ const CONSTANT: &str =
     "X86 CONSTANT\n{ }\n P0 ;\n MOV EBX,[x] ;\n MOV EAX,$1 ;\n MOV [x],$1 ;\nexists (0:EBX=0)\n";
 
 /// The values that the registers of a test's condition have in a row, in the condition's order.
+#[derive(Clone, Copy)]
 struct Row {
     text: &'static str,
     values: &'static [u32],
     front: Front,
 }
 
-fn row(text: &'static str, values: &'static [u32], front: Front) -> Row {
+fn row_of(text: &'static str, values: &'static [u32], front: Front) -> Row {
     Row {
         text,
         values,
@@ -78,25 +79,25 @@ fn decided(alloc: Global, text: &str, values: &[u32], most: u64) -> Result<Front
 #[test]
 fn rows(rt: HostRuntime) -> Result<(), Fail> {
     let rows = [
-        row(SB, &[0, 0], Front::Possible),
-        row(SB, &[1, 1], Front::Possible),
-        row(SB, &[2, 0], Front::Impossible),
-        row(SB, &[1], Front::Impossible),
-        row(SBF, &[0, 0], Front::Impossible),
-        row(SBF, &[0, 1], Front::Possible),
-        row(MP, &[0, 1], Front::Possible),
-        row(MP, &[1, 0], Front::Impossible),
-        row(FWD2, &[0], Front::Impossible),
-        row(FWD2, &[1], Front::Impossible),
-        row(FWD2, &[2], Front::Possible),
-        row(CORR, &[0, 2], Front::Possible),
-        row(CORR, &[2, 1], Front::Possible),
-        row(CORR, &[2, 0], Front::Impossible),
-        row(IWP26, &[1, 2, 2, 1], Front::Impossible),
-        row(IWP26, &[0, 2, 2, 1], Front::Possible),
-        row(IWP26, &[1, 2, 0, 2], Front::Possible),
-        row(BRANCH, &[2, 1, 1, 1, 2, 1, 1, 1], Front::Impossible),
-        row(BRANCH, &[2, 2, 1, 2, 2, 1, 1, 1], Front::Possible),
+        row_of(SB, &[0, 0], Front::Possible),
+        row_of(SB, &[1, 1], Front::Possible),
+        row_of(SB, &[2, 0], Front::Impossible),
+        row_of(SB, &[1], Front::Impossible),
+        row_of(SBF, &[0, 0], Front::Impossible),
+        row_of(SBF, &[0, 1], Front::Possible),
+        row_of(MP, &[0, 1], Front::Possible),
+        row_of(MP, &[1, 0], Front::Impossible),
+        row_of(FWD2, &[0], Front::Impossible),
+        row_of(FWD2, &[1], Front::Impossible),
+        row_of(FWD2, &[2], Front::Possible),
+        row_of(CORR, &[0, 2], Front::Possible),
+        row_of(CORR, &[2, 1], Front::Possible),
+        row_of(CORR, &[2, 0], Front::Impossible),
+        row_of(IWP26, &[1, 2, 2, 1], Front::Impossible),
+        row_of(IWP26, &[0, 2, 2, 1], Front::Possible),
+        row_of(IWP26, &[1, 2, 0, 2], Front::Possible),
+        row_of(BRANCH, &[2, 1, 1, 1, 2, 1, 1, 1], Front::Impossible),
+        row_of(BRANCH, &[2, 2, 1, 2, 2, 1, 1, 1], Front::Possible),
     ];
     for (k, row) in rows.iter().enumerate() {
         let answer = decided(rt.alloc(), row.text, row.values, 20_000)?;

@@ -75,8 +75,8 @@ order_of test n logs = record {
 
 -- a read of another thread's location
 pub record Reader (test : LitmusTest) (n : ℕ) (a : Spot) (s : Slot) : Type 0 where
-  stands : slot_in test n a ≡ Some s
-  reading : is_reading s.action ≡ true
+  pub stands : slot_in test n a ≡ Some s
+  pub reading : is_reading s.action ≡ true
 
 pub from_edge : (test : LitmusTest) (n : ℕ) (logs : List Values) (a : Spot) (s : Slot) → Reader test n a s → (o : Spot)
     → (w : StoresAt test n (slot_location test a.thread s) o)

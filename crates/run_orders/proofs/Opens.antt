@@ -7,7 +7,7 @@ use Rattle.x86_subset.specs.Test.{LitmusTest}
 use Rattle.tso_machine.specs.Event.{Push}
 use Rattle.tso_machine.specs.Machine.{newest, updated}
 use Rattle.tso_machine.specs.Part.{Slot}
-use Rattle.run_judge.proofs.Shown.{newest_push}
+use Rattle.run_judge.proofs.Kept.{newest_push}
 use Rattle.run_witness.specs.Marks.{Mark, is_storing, loop_of, waiting}
 use Rattle.run_witness.specs.Stage.{slot_write}
 use Rattle.run_witness.proofs.Slots.{has_item, not_store_to, waiting_none, waiting_push}
