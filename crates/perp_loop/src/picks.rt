@@ -13,7 +13,7 @@ use rand_xoshiro::Xoshiro256PlusPlus;
 
 /// The schedule's generator, before its first word.
 pub fn first_words(schedule: Schedule) -> Xoshiro256PlusPlus
-    ensures at { IsAtTurn schedule 0 result }
+    ensures { IsAtTurn schedule 0 result }
 {
     match schedule {
         Schedule::Turns => Xoshiro256PlusPlus::seed_from_u64(0),
