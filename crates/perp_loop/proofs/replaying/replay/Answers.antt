@@ -8,7 +8,7 @@ loop-t-init c =
     let crew = c.parts-members.ensures in
     record {
       plays = plays_start c.args.crew c.args.schedule c.parts-members.result.0.items c.parts-members.result.1
-          c.first_words-generator.result c.args.traced crew c.first_words-generator.ensures.at c.requires.empty
+          c.first_words-generator.result c.args.traced crew c.first_words-generator.ensures c.requires.empty
           c.requires.room;
       flat = c.steps.ensures.flat;
       long = refl;
