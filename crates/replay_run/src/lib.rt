@@ -11,3 +11,6 @@ mod run;
 mod turn;
 
 pub use run::run_of_schedule;
+
+#[cfg(test)]
+mod tests;
