@@ -12,6 +12,7 @@ use Rattle.perp_base.specs.declared.options.Options.{Options}
 use Rattle.perp_base.specs.declared.schedule.Schedule.{Schedule}
 use Rattle.tso_runs.specs.Own.{IsWriteOf}
 use Rattle.tso_runs.specs.Schedule.{IsScheduled, named}
+use Rattle.tso_runs.proofs.Fitting.{scheduled_run}
 use Rattle.tso_runs.proofs.Scheduled.{each_schedule_has_one_run}
 use Rattle.tso_runs.proofs.ThreadsLeft.{live}
 use Rattle.tso_runs.proofs.Turns.{Doing}
@@ -24,7 +25,9 @@ use Rattle.perp_loop.proofs.Acted.{weight_of_action}
 use Rattle.perp_loop.proofs.Playing.{Picked, picked}
 use Rattle.perp_loop.proofs.Replayed.{sum_swap}
 use Rattle.perp_loop.proofs.Slots.{left_at}
-use Rattle.run_judge.specs.Judgement.{event_of}
+use Rattle.run_judge.specs.Judgement.{event_of, judgement_of}
+use Rattle.run_judge.specs.declared.judgement.Judgement.TheVariants.{Legal}
+use Rattle.run_judge.proofs.Judged.{legal_is_run_lem}
 use Rattle.run_judge.specs.declared.event.RunEvent.{RunEvent}
 use Rattle.replay_run.specs.declared.player.Player.{Player}
 use Rattle.replay_run.specs.Players.{IsSound, made_by}
@@ -252,3 +255,9 @@ module _ {test : LitmusTest} {options : Options} {schedule : Schedule} {players 
     only_run run scheduled =
         let one = each_schedule_has_one_run test options schedule r.one in
         one.2 run scheduled ∙ sym (one.2 (map event_of events) run_made)
+
+    -- which the judge calls legal
+    pub is_legal : judgement_of test options.iterations (map event_of events) ≡ Legal
+    is_legal =
+        (legal_is_run_lem test options.iterations (map event_of events)).1
+        (scheduled_run test options schedule (map event_of events) run_made)

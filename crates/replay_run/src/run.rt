@@ -1,7 +1,8 @@
 //! The run of a schedule.
 ghost use Rattle.std.specs.Prelude.{◌≡◌, IfOk, List, map};
 ghost use Rattle.perp_base.specs.Options.{IsWithinLimits};
-ghost use Rattle.run_judge.specs.Judgement.{event_of};
+ghost use Rattle.run_judge.specs.Judgement.{event_of, judgement_of};
+ghost use Rattle.run_judge.specs.declared.judgement.Judgement.TheVariants.{Legal};
 ghost use Rattle.seq_conv.specs.Numbers.{AreOf};
 ghost use Rattle.tso_machine.specs.Event.{Event};
 ghost use Rattle.tso_runs.specs.Schedule.{IsScheduled};
@@ -29,6 +30,8 @@ pub fn run_of_schedule(
     ensures run { IfOk result (λ events. IsScheduled test.now options.now schedule (map event_of events.items)) }
     ensures only { IfOk result (λ events. (run : List Event) → IsScheduled test.now options.now schedule run
         → run ≡ map event_of events.items) }
+    ensures legal { IfOk result (λ events.
+        judgement_of test.now options.now.iterations (map event_of events.items) ≡ Legal) }
 {
     let mut players = players_of(alloc, test, options)?;
     let threads = test.threads();

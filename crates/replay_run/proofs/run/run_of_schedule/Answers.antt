@@ -1,6 +1,6 @@
 use Rattle.std.proofs.Common.{rules, ◌≡◌, sym, refl, subst, length, arith}
 use Rattle.replay_run.proofs.Playing.{plays_start, all_play, zero_words, Plays}
-use Rattle.replay_run.proofs.Stepping.{IsIdle, fewer_left, is_low, is_player, is_sound, only_run, replays_on, run_made}
+use Rattle.replay_run.proofs.Stepping.{IsIdle, fewer_left, is_legal, is_low, is_player, is_sound, only_run, replays_on, run_made}
 use Rattle.replay_run.proofs.run.run_of_schedule.Goals as goal
 
 pub loop-t-init : goal.loop-t-init
@@ -77,3 +77,8 @@ pub returns-clause-only : goal.returns-clause-only
 returns-clause-only c =
     let idle : IsIdle c.loop-t.invariant = search rules in
     only_run c.loop-t.invariant idle
+
+pub returns-clause-legal : goal.returns-clause-legal
+returns-clause-legal c =
+    let idle : IsIdle c.loop-t.invariant = search rules in
+    is_legal c.loop-t.invariant idle
