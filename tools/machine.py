@@ -86,11 +86,33 @@ class Thread:
         return True
 
 
-def replay(test, iterations, seed=0, rate=64, capacity=8, order=None):
-    """The threads' logs, by thread, iteration and column."""
-    memory = [0] * len(test.locations)
-    left = [Thread(test, t, iterations, seed, rate, capacity) for t in range(len(test.bodies))]
-    threads = list(left)
+class Told(Thread):
+    """A thread that tells its events to a list, as lines without a line feed."""
+
+    def __init__(self, lines, *args):
+        super().__init__(*args)
+        self.lines, self.waiting = lines, []
+
+    def tell(self, iteration, place, what):
+        self.lines.append("P%d %d %d %s" % (self.number, iteration, place, what))
+
+    def drain(self, memory):
+        super().drain(memory)
+        self.tell(*self.waiting.pop(0), "drain")
+
+    def act(self, memory):
+        at = divmod(self.done, len(self.body))
+        kind = self.body[at[1]].kind
+        super().act(memory)
+        if kind == "store":
+            self.waiting.append(at)
+        self.tell(*at, {"store": "push", "load": "read", "fence": "fence", "exchange": "exchange"}[kind]
+                  + (" %d" % self.log[-1][-1] if kind in ("load", "exchange") else ""))
+
+
+def take_turns(threads, places, order):
+    memory = [0] * places
+    left = list(threads)
     chooser = None if order is None else Xoshiro256PlusPlus(order)
     turn = 0
     while left:
@@ -100,7 +122,21 @@ def replay(test, iterations, seed=0, rate=64, capacity=8, order=None):
         else:
             del left[at]
             turn = at
+
+
+def replay(test, iterations, seed=0, rate=64, capacity=8, order=None):
+    """The threads' logs, by thread, iteration and column."""
+    threads = [Thread(test, t, iterations, seed, rate, capacity) for t in range(len(test.bodies))]
+    take_turns(threads, len(test.locations), order)
     return [thread.log if thread.body else [[]] * iterations for thread in threads]
+
+
+def events(test, iterations, seed=0, rate=64, capacity=8, order=None):
+    """The lines of the run's events, in order."""
+    lines = []
+    threads = [Told(lines, test, t, iterations, seed, rate, capacity) for t in range(len(test.bodies))]
+    take_turns(threads, len(test.locations), order)
+    return lines
 
 
 def passes(kind, value, m):

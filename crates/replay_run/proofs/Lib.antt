@@ -1,0 +1,4 @@
+pub mod Playing
+pub mod Sounded
+pub mod Stepping
+pub mod Turned
