@@ -186,7 +186,8 @@ def outcome_table(page):
     head = ["", *("%d:%s" % (thread, reg.upper()) for thread, reg in page.registers), ""]
     rows = []
     for number, row in enumerate(page.rows, 1):
-        marks = [mark("condition", "has the condition")] * row.has_condition + [mark("relaxed", "not without store buffers")] * row.is_relaxed
+        marks = [mark("condition", "has the condition")] * row.has_condition
+        marks += [mark("relaxed", "not without store buffers")] * row.is_relaxed
         cells = [element("th", str(number), scope="row")] + [element("td", str(value)) for value in row.values]
         rows.append(element("tr", "".join(cells) + element("td", " ".join(marks)), id="row%d" % number,
                             class_="has" if row.has_condition else "other"))
@@ -236,7 +237,8 @@ def leaf(text, reasons, tree):
 
 
 def why(page, group, text, tree, said):
-    title = element("h3", ("Why never: " if tree else "Not found: ") + element("code", escape(condition_of(page.test.conjunctions()[group]))))
+    asked = element("code", escape(condition_of(page.test.conjunctions()[group])))
+    title = element("h3", ("Why never: " if tree else "Not found: ") + asked)
     if tree is None:
         body = element("p", escape("perple_tool show says: %s. The page's maker found no execution with it; that is not proved." % said))
     else:
@@ -315,5 +317,6 @@ def html(page, style=None, home=""):
     left = '<section id="machine">%s\n<div id="controls"></div>\n%s</section>' % (asked, program_table(text))
     right = '<section id="table"><h2>Outcomes</h2>%s\n%s</section>' % (outcome_table(page), notes(page))
     reasons = "\n".join(why(page, *reason) for reason in page.reasons)
-    return ('<!doctype html>\n<html lang="en">\n<head>\n%s\n</head>\n<body>\n%s\n<main>\n%s\n<div id="side">%s\n%s</div>\n</main>\n%s\n%s\n</body>\n</html>\n'
-            % (head, title, left, right, run_list(page), reasons, script(page)))
+    return ('<!doctype html>\n<html lang="en">\n<head>\n%s\n</head>\n<body%s>\n%s\n<main>\n%s\n'
+            '<div id="side">%s\n%s</div>\n</main>\n%s\n%s\n</body>\n</html>\n'
+            % (head, ' class="wide"' if len(text.test.bodies) > 4 else "", title, left, right, run_list(page), reasons, script(page)))
