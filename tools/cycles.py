@@ -83,8 +83,9 @@ class Reasons:
         action, body = self.action(node), self.test.bodies[node[0]]
         location = "" if action.loc is None else self.test.locations[action.loc]
         again = sum(other.kind == "load" and other.loc == action.loc for other in body) > 1
+        into = " into " + action.reg.upper() if again and action.reg else ""
         return "P%d's %s" % (node[0], {
-            "store": "write of %s to %s" % (action.value, location), "load": "read of " + location + (" into %s" % action.reg.upper() if again and action.reg else ""),
+            "store": "write of %s to %s" % (action.value, location), "load": "read of " + location + into,
             "exchange": "exchange of %s for %s" % (location, action.value), "fence": "fence"}[action.kind])
 
     def is_write(self, node):

@@ -16,7 +16,8 @@
   // ---- the machine
 
   function begun() {
-    const state = { memory: data.locations.map(() => 0), threads: data.bodies.map(() => ({ done: 0, buffer: [], reads: {}, registers: {} })) };
+    const idle = () => ({ done: 0, buffer: [], reads: {}, registers: {} });
+    const state = { memory: data.locations.map(() => 0), threads: data.bodies.map(idle) };
     state.threads.forEach((_, thread) => holdConstants(state, thread));
     return state;
   }
@@ -202,7 +203,8 @@
       const name = place === mine.done ? "next" : place < mine.done ? "done" : "";
       $(`i${thread}-${place}`).className = name + (isNow && event.place === place ? " now" : "");
     });
-    const registers = Object.entries(mine.registers).map(([name, value]) => cell(`${name}=${value}`, value !== before.threads[thread].registers[name]));
+    const registers = Object.entries(mine.registers).map(([name, value]) =>
+      cell(`${name}=${value}`, value !== before.threads[thread].registers[name]));
     $(`registers${thread}`).replaceChildren(...(registers.length ? registers : ["–"]));
     const pushed = isNow && event.kind === "push" ? mine.buffer.length - 1 : -1;
     const boxes = mine.buffer.map((write, number) => cell(`${data.locations[write.loc]}=${write.value}`, number === pushed, "write"));
@@ -227,12 +229,14 @@
     const holds = conditionHolds(state);
     const said = holds === undefined ? "is open" : holds ? "is true" : "is false";
     const whole = make("code", {}, data.negated ? "~exists (" : "exists (", ...words, ")");
-    $("condition").replaceChildren(whole, " ", make("span", { className: `atom ${holds === undefined ? "open" : holds}`, id: "holds" }, said));
+    const coloured = { className: `atom ${holds === undefined ? "open" : holds}`, id: "holds" };
+    $("condition").replaceChildren(whole, " ", make("span", coloured, said));
   }
 
   function choiceWords(choice) {
     const action = data.bodies[choice.thread][choice.place];
-    return choice.kind === "drain" ? `${data.locations[action.loc]}=${action.value} to memory` : data.instructions[choice.thread][choice.place];
+    if (choice.kind === "drain") return `${data.locations[action.loc]}=${action.value} to memory`;
+    return data.instructions[choice.thread][choice.place];
   }
 
   function showChoices(state) {
@@ -241,7 +245,8 @@
       const mine = given.filter((choice) => choice.thread === thread).map((choice) => {
         const why = make("span", { className: "reason" }, choice.reason || "");
         if (!data.bodies[thread][choice.place]) return [why];
-        const taken = make("button", { className: "choice", disabled: choice.reason !== null, onclick: () => take(choice) }, choiceWords(choice));
+        const more = { className: "choice", disabled: choice.reason !== null, onclick: () => take(choice) };
+        const taken = make("button", more, choiceWords(choice));
         return choice.reason === null ? [taken] : [taken, why];
       });
       $(`choices${thread}`).replaceChildren(...mine.flat());
@@ -255,7 +260,8 @@
     $("events").replaceChildren(...items);
     const now = $("events").children[at - 1];
     if (now) $("events").scrollTop = Math.max(0, now.offsetTop - $("events").offsetTop - 120);
-    const by = row && data.by[row - 1] === "show" ? "from perple_tool show" : "found by the page's maker, judged legal by perple_tool judge";
+    const isShown = row && data.by[row - 1] === "show";
+    const by = isShown ? "from perple_tool show" : "found by the page's maker, judged legal by perple_tool judge";
     $("steps").querySelector("h2").textContent = row ? `A run with outcome ${row}, ${by}` : "The events so far";
     $("lines").value = ["%execution 1", ...moments.slice(1, at + 1).map((moment) => line(moment.event)), ""].join("\n");
   }
@@ -305,7 +311,8 @@
         slider, make("span", { id: "step" })), words);
     $("machine").append(
       make("div", { className: "bar" }, button("anew", "Explore from the beginning", anew), button("random", "A random event", random)),
-      make("p", { className: "note keys" }, "Keys: left and right for a step, Home and End, space to play. At each step any event that may come next can be taken."));
+      make("p", { className: "note keys" }, "Keys: left and right for a step, Home and End, space to play. ",
+        "At each step any event that may come next can be taken."));
   }
 
   function anew() {
@@ -322,10 +329,15 @@
 
   function addRuns() {
     data.runs.forEach((_, number) => {
-      const chosen = make("button", { title: "step through a run", onclick: () => { stop(); choose(number + 1); show(); } }, String(number + 1));
-      $(`row${number + 1}`).querySelector("th").replaceChildren(chosen);
+      const chosen = () => {
+        stop();
+        choose(number + 1);
+        show();
+      };
+      const taken = make("button", { title: "step through a run", onclick: chosen }, String(number + 1));
+      $(`row${number + 1}`).querySelector("th").replaceChildren(taken);
     });
-    if (!$("steps")) $("side").prepend(make("section", { id: "steps" }, make("h2"), make("ol", { id: "events" })));
+    if (!$("steps")) $("side").append(make("section", { id: "steps" }, make("h2"), make("ol", { id: "events" })));
   }
 
   function takeLines() {
@@ -340,12 +352,18 @@
   function addLines() {
     const lines = make("textarea", { id: "lines", spellcheck: false });
     lines.setAttribute("aria-label", "the events as lines");
-    const copy = () => { lines.select(); if (!document.execCommand("copy") && navigator.clipboard) navigator.clipboard.writeText(lines.value); };
+    const copy = () => {
+      lines.select();
+      if (!document.execCommand("copy") && navigator.clipboard) navigator.clipboard.writeText(lines.value);
+    };
+    const bar = [button("copy", "Copy", copy), button("take", "Take these lines", takeLines), make("span", { id: "pasted" })];
     $("steps").append(make("details", {}, make("summary", {}, "The events as lines, to copy or to paste"), lines,
-      make("div", { className: "bar" }, button("copy", "Copy", copy), button("take", "Take these lines", takeLines), make("span", { id: "pasted" }))));
+      make("div", { className: "bar" }, ...bar)));
   }
 
-  const KEYS = { ArrowRight: () => go(at + 1), ArrowLeft: () => go(at - 1), Home: () => go(0), End: () => go(moments.length - 1), " ": () => play() };
+  const KEYS = {
+    ArrowRight: () => go(at + 1), ArrowLeft: () => go(at - 1), Home: () => go(0), End: () => go(moments.length - 1), " ": () => play(),
+  };
 
   document.addEventListener("keydown", (press) => {
     const isTyped = press.target.closest("textarea, input, summary") || (press.key === " " && press.target.closest("button, a"));

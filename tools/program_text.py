@@ -47,8 +47,8 @@ class Text:
     def conditioned(self, groups):
         """The text with another condition: atoms joined into conjunctions, and these by \\/."""
         front = self.raw[:self.condition_at()].decode("utf-8", "replace")
-        asked = " \\/ ".join(" /\\ ".join("%d:%s=%d" % (thread, reg.upper(), value) for thread, reg, value, *_ in group) for group in groups)
-        return (front + "exists (%s)\n" % asked).encode()
+        asked = [" /\\ ".join("%d:%s=%d" % (thread, reg.upper(), value) for thread, reg, value, *_ in group) for group in groups]
+        return (front + "exists (%s)\n" % " \\/ ".join(asked)).encode()
 
     def condition_at(self):
         """Where the condition begins; each comment is as long as before, so that places stay."""

@@ -45,6 +45,7 @@ class Page:
         self.text, self.test = text, text.test
         self.answer = self.show(text.raw)
         self.rows, self.left_out, self.refusal, self.registers = [], 0, "", []
+        self.states, self.marks_relaxed = None, False  # every outcome, where they are listed
         try:
             self.outcomes = exploring.Outcomes(self.test)
             self.registers = self.outcomes.registers
@@ -77,7 +78,6 @@ class Page:
     def shown_row(self):
         """Where the outcomes are not listed: the run of `show`, if it gives one."""
         status, out, _ = self.answer
-        self.states, self.marks_relaxed = None, False
         if status == 0 and out.startswith("%events"):
             events = exploring.shown(out)
             state = exploring.final(self.test, self.registers, events)
@@ -105,7 +105,7 @@ class Page:
 
     def forbidden(self):
         """For each conjunction that no outcome has, in the order of the condition: its number, and its tree or why there is none."""
-        if self.states_unknown():
+        if self.states is None:
             if not self.answer[1].startswith("Forbidden"):
                 return []
             groups = range(len(self.test.ends))
@@ -113,9 +113,6 @@ class Page:
             groups = [number for number, group in enumerate(self.test.conjunctions())
                       if not any(exploring.litmus.has(group, self.registers, state) for state in self.states)]
         return [(group, *self.reason(group)) for group in groups]
-
-    def states_unknown(self):
-        return getattr(self, "states", None) is None
 
     def reason(self, group):
         """The text with this conjunction alone, and the tree of `show`, or what it says instead."""
@@ -133,7 +130,7 @@ class Page:
         if status == 0 and out.startswith("Forbidden"):
             return "Forbidden", "perple_tool show has a reason for each conjunction: no execution has this outcome."
         said = "perple_tool show says: %s." % (out or err).strip().split("\n")[0]
-        if self.states_unknown():
+        if self.states is None:
             return "Open", said
         if any(row.has_condition for row in self.rows):
             return "Allowed", said + " The page's maker found a run, and perple_tool judge calls it legal."
@@ -189,7 +186,8 @@ def outcome_table(page):
     head = ["", *("%d:%s" % (thread, reg.upper()) for thread, reg in page.registers), ""]
     rows = []
     for number, row in enumerate(page.rows, 1):
-        marks = [mark("condition", "has the condition")] * row.has_condition + [mark("relaxed", "not without store buffers")] * row.is_relaxed
+        marks = [mark("condition", "has the condition")] * row.has_condition
+        marks += [mark("relaxed", "not without store buffers")] * row.is_relaxed
         cells = [element("th", str(number), scope="row")] + [element("td", str(value)) for value in row.values]
         rows.append(element("tr", "".join(cells) + element("td", " ".join(marks)), id="row%d" % number,
                             class_="has" if row.has_condition else "other"))
@@ -239,7 +237,8 @@ def leaf(text, reasons, tree):
 
 
 def why(page, group, text, tree, said):
-    title = element("h3", ("Why never: " if tree else "Not found: ") + element("code", escape(condition_of(page.test.conjunctions()[group]))))
+    asked = element("code", escape(condition_of(page.test.conjunctions()[group])))
+    title = element("h3", ("Why never: " if tree else "Not found: ") + asked)
     if tree is None:
         body = element("p", escape("perple_tool show says: %s. The page's maker found no execution with it; that is not proved." % said))
     else:
@@ -318,5 +317,6 @@ def html(page, style=None, home=""):
     left = '<section id="machine">%s\n<div id="controls"></div>\n%s</section>' % (asked, program_table(text))
     right = '<section id="table"><h2>Outcomes</h2>%s\n%s</section>' % (outcome_table(page), notes(page))
     reasons = "\n".join(why(page, *reason) for reason in page.reasons)
-    return ('<!doctype html>\n<html lang="en">\n<head>\n%s\n</head>\n<body>\n%s\n<main>\n%s\n<div id="side">%s\n%s</div>\n</main>\n%s\n%s\n</body>\n</html>\n'
-            % (head, title, left, right, run_list(page), reasons, script(page)))
+    return ('<!doctype html>\n<html lang="en">\n<head>\n%s\n</head>\n<body%s>\n%s\n<main>\n%s\n'
+            '<div id="side">%s\n%s</div>\n</main>\n%s\n%s\n</body>\n</html>\n'
+            % (head, ' class="wide"' if len(text.test.bodies) > 4 else "", title, left, right, run_list(page), reasons, script(page)))
