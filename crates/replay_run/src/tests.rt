@@ -47,7 +47,7 @@ struct Row {
     lines: &'static [&'static str],
 }
 
-// The lines are those of `events` in bench/machine.py, a machine that was written apart from this one; `bench/events`
+// The lines are those of `events` in tools/machine.py, a machine that was written apart from this one; `bench/events`
 // compares them anew.
 const ROWS: [Row; 7] = [
     Row {
