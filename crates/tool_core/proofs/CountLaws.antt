@@ -45,6 +45,9 @@ ends_no : (before : List ℕ) → penultimate (before ++ codes "Seen no\n") ≡ 
 unfolding penultimate second
 ends_no before = rw (reverse-append before (codes "Seen no\n")) refl
 
+differ : (yes no : ℕ) → yes ≡ no → yes ≡ 115 → no ≡ 111 → ⊥
+differ yes no same is other = omega arith
+
 -- what stands before the last line of a report
 front_of : CountReport → List ℕ
 front_of r =
@@ -57,8 +60,8 @@ none_seen r none = rw none (simp append_assoc)
 
 seen_some : (r : CountReport) (before : List ℕ) → before ++ codes "Seen yes\n" ≡ count_report_of r → r.within ≡ 0 → ⊥
 seen_some r before e none =
-    let same : 115 ≡ 111 = sym (ends_yes before) ∙ ap penultimate (e ∙ none_seen r none) ∙ ends_no (front_of r) in
-    absurd (omega arith)
+    differ (penultimate (before ++ codes "Seen yes\n")) (penultimate (front_of r ++ codes "Seen no\n"))
+    (ap penultimate (e ∙ none_seen r none)) (ends_yes before) (ends_no (front_of r))
 
 -- ---- the run that was counted
 

@@ -4,12 +4,14 @@ ghost use Rattle.std.specs.Io.{ReadsAtMost};
 ghost use Rattle.std.specs.Io.KnownBytes.{ReadConsumes};
 ghost use Rattle.perp_base.specs.Causes.{HasCause};
 
+mod counts;
 mod faiths;
 mod meeting;
 mod rows;
 mod shown;
 
 use super::*;
+use counts::{COUNTS, FAILING_COUNTS, REFUSED, RUNS};
 use faiths::FAITHS;
 use perp_base::{Calls, Failed, MemSink, MemSource, Source};
 use rows::ROWS;
@@ -238,6 +240,25 @@ fn faithful_tests_are_told(rt: HostRuntime) -> Result<(), Fail> {
     Ok(())
 }
 
+/// A replay leaves the field untouched.
+#[test]
+fn counts_are_told(rt: HostRuntime) -> Result<(), Fail> {
+    let alloc = rt.alloc();
+    for (line, text, report) in COUNTS {
+        let input = text.as_bytes();
+        assert_answer(&rt, alloc, line, input, 0, report.as_bytes(), "")?;
+    }
+    for (line, text, report, words) in RUNS {
+        let ran = call(&rt, alloc, line, text.as_bytes(), NEVER)?;
+        assert_ended(&rt, &ran, line, 0, report.as_bytes(), "");
+        assert_eq!(rt; ran.words, words, "field at {line}");
+    }
+    for (line, text, status, err) in REFUSED {
+        assert_answer(&rt, alloc, line, text.as_bytes(), status, b"", err)?;
+    }
+    Ok(())
+}
+
 #[test]
 fn skews_are_told(rt: HostRuntime) -> Result<(), Fail> {
     let ran = call(&rt, rt.alloc(), "skew 3", OWN.as_bytes(), NEVER)?;
@@ -410,7 +431,14 @@ fn long_litmus_parts_are_refused(rt: HostRuntime) -> Result<(), Fail> {
 #[test]
 fn inputs_without_an_end_are_refused(rt: HostRuntime) -> Result<(), Fail> {
     let alloc = rt.alloc();
-    for line in ["judge", "order", "witness 1", "verdict", "skew 1"] {
+    for line in [
+        "judge",
+        "order",
+        "witness 1",
+        "verdict",
+        "skew 1",
+        "count 1",
+    ] {
         let mut blanks = Blanks {
             calls: Calls::none(),
         };
@@ -451,26 +479,43 @@ const FAILING: [(u64, u64, u8, usize, &str); 18] = [
     (0, 0, 0, 88, ""),
 ];
 
-/// Each call of the source and of the output fails in turn, and what stands on the output is a front part of the whole
-/// answer.
+/// Each call of the source and of the output fails in turn, as the rows tell, and what stands on the output is a front
+/// part of the whole answer.
+fn assert_failing<R: Threads + Sync + Abort>(
+    rt: &R,
+    alloc: Global,
+    line: &str,
+    input: &[u8],
+    rows: &[(u64, u64, u8, usize, &str)],
+) -> Result<(), Fail> {
+    let whole = call(rt, alloc, line, input, NEVER)?;
+    for (read, write, status, written, err) in rows {
+        let failing = Failing {
+            read: *read,
+            write: *write,
+            line: 0,
+        };
+        let ran = call(rt, alloc, line, input, failing)?;
+        let out = ran.out.written();
+        assert_ended(rt, &ran, line, *status, out, *err);
+        let front = out.len() == *written && whole.out.written().starts_with(out);
+        assert!(rt; front, "output at read {read} write {write}");
+    }
+    Ok(())
+}
+
 #[test]
 fn each_call_may_fail(rt: HostRuntime) -> Result<(), Fail> {
     let alloc = rt.alloc();
     let input = with_section(alloc, SB, "%logs 1\nP0 0\nP1 0\n")?;
-    let whole = call(&rt, alloc, "order", &input, NEVER)?;
-    for (read, write, status, written, err) in FAILING {
-        let failing = Failing {
-            read,
-            write,
-            line: 0,
-        };
-        let ran = call(&rt, alloc, "order", &input, failing)?;
-        let out = ran.out.written();
-        assert_ended(&rt, &ran, "a failing call", status, out, err);
-        let front = out.len() == written && whole.out.written().starts_with(out);
-        assert!(rt; front, "output at read {read} write {write}");
-    }
-    Ok(())
+    assert_failing(&rt, alloc, "order", &input, &FAILING)?;
+    assert_failing(
+        &rt,
+        alloc,
+        "count 20 --order turns",
+        SB.as_bytes(),
+        &FAILING_COUNTS,
+    )
 }
 
 /// Which call of the error sink fails, and what stands there. The line has 23 bytes.

@@ -2,12 +2,11 @@
 //! several threads store to its location, and another thread's store has its value. The gallery has those of all
 //! examples.
 
+use super::counts::{COW, IWP, N5F, WRCOVER, XCHG3};
+
 /// A test, and the line for it.
 pub(super) const FAITHS: [(&str, &str); 14] = [
-    (
-        "X86 COW\n{ }\n P0          | P1         ;\n MOV [x],$1  | MOV [x],$2 ;\n MFENCE      |            ;\n MOV EAX,[x] |            ;\nexists (0:EAX=2)\n",
-        "Loose 0 1\n",
-    ),
+    (COW, "Loose 0 1\n"),
     (
         "X86 COWW\n{ }\n P0          ;\n MOV [x],$1  ;\n MOV [x],$2  ;\n MOV EAX,[x] ;\nexists (0:EAX=1)\n",
         "Faithful\n",
@@ -24,10 +23,7 @@ pub(super) const FAITHS: [(&str, &str); 14] = [
         "X86 MP\n{ }\n P0 | P1 ;\n MOV [x],$1 | MOV EAX,[y] ;\n MOV [y],$1 | MOV EBX,[x] ;\nexists (1:EAX=1 /\\ 1:EBX=0)\n",
         "Faithful\n",
     ),
-    (
-        "X86 N5F\n{ }\n P0          | P1          ;\n MOV [x],$1  | MOV [x],$2  ;\n MFENCE      | MFENCE      ;\n MOV EAX,[x] | MOV EAX,[x] ;\nexists (0:EAX=2 /\\ 1:EAX=1)\n",
-        "Loose 0 1\n",
-    ),
+    (N5F, "Loose 0 1\n"),
     (
         "X86 OWN\n{ }\n P0 | P1 ;\n MOV [x],$1 | MOV [y],$1 ;\n MOV EAX,[x] | MOV EAX,[y] ;\nexists (0:EAX=1 /\\ 1:EAX=1)\n",
         "Faithful\n",
@@ -44,18 +40,9 @@ pub(super) const FAITHS: [(&str, &str); 14] = [
         "X86 TWOX\n{ }\n P0         | P1          ;\n MOV [x],$1 | MOV EAX,[y] ;\n MOV [y],$1 | MOV EBX,[x] ;\n MOV [x],$2 |             ;\nexists (1:EAX=1 /\\ 1:EBX=0)\n",
         "Faithful\n",
     ),
-    (
-        "X86 WRCOVER\n{ }\n P0         | P1          | P2          ;\n MOV [x],$1 | MOV EAX,[y] | MOV EAX,[z] ;\n MOV [y],$1 | MOV [x],$2  | MOV EBX,[x] ;\n            | MOV [z],$1  |             ;\nexists (1:EAX=1 /\\ 2:EAX=1 /\\ 2:EBX=1)\n",
-        "Loose 0 3\n",
-    ),
-    (
-        "X86 XCHG3\n{ }\n P0         | P1           ;\n MOV [x],$1 | MOV EAX,$2   ;\n            | XCHG [x],EAX ;\n            | MOV EBX,[x]  ;\nexists (1:EAX=1 /\\ 1:EBX=1)\n",
-        "Loose 0 1\n",
-    ),
-    (
-        "X86 iwp2.6\n{ }\n P0         | P1         | P2          | P3          ;\n MOV [x],$1 | MOV [x],$2 | MOV EAX,[x] | MOV EAX,[x] ;\n            |            | MOV EBX,[x] | MOV EBX,[x] ;\nexists (2:EAX=1 /\\ 2:EBX=2 /\\ 3:EAX=2 /\\ 3:EBX=1)\n",
-        "Loose 0 1\n",
-    ),
+    (WRCOVER, "Loose 0 3\n"),
+    (XCHG3, "Loose 0 1\n"),
+    (IWP, "Loose 0 1\n"),
     (
         "X86 COW2\n{ }\n P0 | P1 ;\n MOV [x],$1 | MOV [x],$2 ;\n MOV EAX,[x] | ;\nexists (0:EAX=1 \\/ 0:EAX=2)\n",
         "Loose 1 2\n",
