@@ -1,43 +1,29 @@
 -- The order of a run's moments has kept order.
-use Rattle.std.proofs.Common.{◌≡◌, ℕ, ◌+◌, ◌*◌, ◌<◌, ◌≤◌, ◌==◌, not, nat_lt, lt-ltb, true, false, Option, None, Some, List, ◌∷◌, ◌++◌, length, slice_get, refl, sym, ap, ◌∙◌, arith, subst, inl, inr, ◌⊎◌}
-use Rattle.std.proofs.lemmas.Bool.{and_parts, both_ways, cases_Bool, cases_eq, cases_lt, false_from_ne_true, ltb-true, not_from_false}
+use Rattle.std.proofs.Common.{◌≡◌, ℕ, ◌+◌, ◌<◌, nat_lt, lt-ltb, true, false, Some, List, ◌∷◌, ◌++◌, length, slice_get, refl, sym, ◌∙◌, arith, subst, inl, inr, ◌⊎◌}
+use Rattle.std.proofs.lemmas.Bool.{cases_Bool}
 use Rattle.std.specs.List.{list_any}
-use Rattle.x86_subset.specs.Instr.{is_reading, is_store_to}
 use Rattle.x86_subset.specs.Test.{LitmusTest, body_of}
 use Rattle.x86_subset.specs.declared.instr.Instr.{Instr}
 use Rattle.x86_subset.specs.declared.instr.Instr.TheVariants.{Store}
-use Rattle.tso_machine.specs.Event.{Event, event_location, is_drain}
-use Rattle.tso_machine.specs.Laws.{NamesSource}
-use Rattle.tso_machine.specs.Log.{value_read}
+use Rattle.tso_machine.specs.Event.{Event, is_drain}
 use Rattle.tso_machine.specs.Part.{Slot}
 use Rattle.tso_machine.specs.Run.{IsRunOf}
-use Rattle.tso_machine.specs.Source.{is_memory_kind, is_memory_write, is_pending, is_push, origin_of, source_of}
-use Rattle.tso_machine.proofs.Parts.{deed_does}
-use Rattle.tso_machine.proofs.Sources.{values_name_their_source_lem}
-use Rattle.seq_conv.specs.Sequence.{Origin, action_at, site_location, store_of, stores_of, value_of}
-use Rattle.seq_conv.proofs.Stores.{IsStoreOf, stores_are}
-use Rattle.perp_base.specs.Last.{last_that}
-use Rattle.perp_base.proofs.Lists.{Among, Apart, any_none, among_append_left, among_from_contains, each_among, each_from_among, last_found}
-use Rattle.outcome_conv.proofs.Agree.{thread_below}
-use Rattle.verdict.specs.Edges.{is_barrier, is_cycle_of}
+use Rattle.tso_machine.specs.Source.{is_push}
+use Rattle.seq_conv.specs.Sequence.{Origin, action_at, store_of}
+use Rattle.perp_base.proofs.Lists.{among_append_left}
+use Rattle.verdict.specs.Edges.{is_barrier}
 use Rattle.verdict.proofs.Deeds.{HasDeed, IsEarlier, deed_before_drain, deed_gives, deed_order, has_in, run_cut, store_before_barrier, write_order}
-use Rattle.verdict.proofs.EventKinds.{gives_kind, is_store, is_storing, push_no_drain}
-use Rattle.verdict.proofs.Forward.{no_cycle}
+use Rattle.verdict.proofs.EventKinds.{is_store, is_storing}
 use Rattle.verdict.proofs.InOrder.{goes_forward, moment_writes}
-use Rattle.verdict.proofs.Moments.{event_from, event_tells, has_moment, moment_drains, moment_of_deed, moment_of_write}
+use Rattle.verdict.proofs.Moments.{event_tells, has_moment, moment_drains, moment_of_deed, moment_of_write}
 use Rattle.verdict.proofs.ReadEdges.{reading_no_store}
-use Rattle.verdict.proofs.Taken.{FromBuffer, among_self, pending_tells}
-use Rattle.run_witness.specs.Marks.{index_of, loop_of}
-use Rattle.run_witness.proofs.Reading.{store_stores}
-use Rattle.tso_machine.proofs.Parts.{deeds}
-use Rattle.run_witness.proofs.Slots.{earlier_index, slot_at, slot_of}
-use Rattle.decision.proofs.OwnReads.{deed_of_write, deeds_turn, in_front, last_from, same_turn, turn, twice}
-use Rattle.run_orders.specs.Orders.{Afar, Draws, FromStart, FromStore, KeepsOrder, Near, Spot, StoresAt, slot_in, spot_of, value_at}
-use Rattle.run_orders.proofs.Begun.{one_slot, slot_action, spot}
-use Rattle.run_orders.proofs.Logged.{gives_reading, no_drain_reads}
+use Rattle.run_witness.specs.Marks.{loop_of}
+use Rattle.run_witness.proofs.Slots.{earlier_index, slot_at}
+use Rattle.run_orders.specs.Orders.{KeepsOrder, Spot, slot_in}
+use Rattle.run_orders.proofs.Begun.{slot_action, spot}
 use Rattle.run_orders.proofs.Making.{slot_thread}
-use Rattle.once.specs.Moments.{RunsAreOrdered, comes_before, moment_by}
-use Rattle.once.proofs.Turns.{At, EarlierIn, Leads, Stores, Taken, Waiting, come_first, either_leads, initial_leads, initial_own, is_come, moment, own_came, own_state, source_leads, taken_at, waits_buffer}
+use Rattle.once.specs.Moments.{comes_before, moment_by}
+use Rattle.once.proofs.Turns.{Leads, is_come, moment}
 
 -- Spots and origins.
 

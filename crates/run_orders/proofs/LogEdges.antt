@@ -1,43 +1,19 @@
 -- The order that logs ask for: it has kept order, and puts each read after its source and before later stores.
-use Rattle.std.proofs.Common.{◌≡◌, ℕ, zero, suc, ◌+◌, ◌-◌, ◌*◌, ◌/◌, ◌<◌, ◌≤◌, ◌==◌, ◌&&◌, ◌||◌, not, nat_lt, lt-ltb, Bool, true, false, Option, None, Some, List, [], ◌∷◌, All, length, map, drop, take, slice_get, refl, sym, ap, ◌∙◌, arith, subst, inl, inr, ◌⊎◌, eq-eqb, mul-le-mul_right}
-use Rattle.std.proofs.lemmas.Bool.{MatchBool-at_true, MatchBool-at_false, and_from, and_parts, cases_Bool, cases_eq, cases_lt, eqb-true, not_from_false, or_left, or_right, both_ways}
-use Rattle.std.proofs.lemmas.Option.{slice_get_within}
-use Rattle.std.proofs.lemmas.List.Elements.{recursion_from_All}
-use Rattle.std.specs.List.{AllZip, AllByRecursion as Each, filter_map, list_any}
-use Rattle.x86_subset.specs.Instr.{is_reading, is_store_to}
-use Rattle.x86_subset.specs.Test.{LitmusTest, body_of}
-use Rattle.x86_subset.specs.declared.instr.Instr.{Instr}
-use Rattle.x86_subset.specs.declared.instr.Instr.TheVariants.{Store, Load, Fence, Exchange}
+use Rattle.std.proofs.Common.{◌≡◌, ℕ, ◌+◌, ◌-◌, ◌<◌, ◌==◌, ◌&&◌, ◌||◌, not, nat_lt, lt-ltb, true, false, Some, List, slice_get, refl, ◌∙◌, arith, inl, inr, eq-eqb}
+use Rattle.std.proofs.lemmas.Bool.{and_from, not_from_false, or_left, or_right}
+use Rattle.x86_subset.specs.Instr.{is_reading}
+use Rattle.x86_subset.specs.Test.{LitmusTest}
 use Rattle.load_log.specs.Values.{Values}
-use Rattle.tso_machine.specs.Event.{Event, Kind, Push, Drain, Read, Fenced, Exchanged, event_location, is_drain, is_drain_kind}
-use Rattle.tso_machine.specs.Log.{value_read, value_read_as}
-use Rattle.tso_machine.specs.Part.{Fills, Gives, Slot, part_of}
-use Rattle.tso_machine.specs.Run.{IsRunOf}
-use Rattle.tso_machine.proofs.ReadEvents.{drains_unread}
-use Rattle.seq_conv.specs.Sequence.{rank_of, store_count, stores_of, value_of}
-use Rattle.seq_conv.specs.Laws.{HasOneOwner}
-use Rattle.tso_machine.proofs.Parts.{deed_does}
-use Rattle.seq_conv.proofs.Stores.{IsStoreOf, one_owner, rank_within, stores_are}
-use Rattle.perp_base.proofs.Lists.{Among, among_from_contains, each_among, each_filter, each_from_among}
-use Rattle.verdict.specs.Edges.{is_access, is_barrier, is_cycle_of, keeps}
+use Rattle.tso_machine.specs.Part.{Slot}
+use Rattle.verdict.specs.Edges.{is_access, is_barrier, keeps}
 use Rattle.decision.proofs.Waits.{any_between, keeps_reading, keeps_storing}
-use Rattle.run_witness.specs.Marks.{is_storing, loop_of, stored}
-use Rattle.run_witness.specs.Order.{HasLogs, HasWriters, IsWriter, deed_kind, logged, stores_to}
-use Rattle.run_witness.specs.Right.{AreRight, IsRight, last_stored}
-use Rattle.run_witness.specs.Stage.{deed_of}
-use Rattle.run_witness.proofs.Finished.{deeds_log}
-use Rattle.run_witness.proofs.Forbids.{writer_stores}
-use Rattle.run_witness.proofs.Reading.{last_is, no_store, store_stores}
-use Rattle.run_witness.proofs.Slots.{IsSlotAt, has_item, slot_at, slot_of, stored_lt, stored_none, stored_same, stored_suc}
-use Rattle.run_witness.proofs.Stands.{value_is, writer_is}
-use Rattle.run_orders.specs.Laws.{LogsOrCycle}
+use Rattle.run_witness.specs.Marks.{is_storing, loop_of}
+use Rattle.run_witness.specs.Order.{stores_to}
+use Rattle.run_witness.proofs.Reading.{store_stores}
 use Rattle.run_orders.specs.Logs.{is_barred_in, keeps_slots, kept_in, log_edge, reads_before, reads_from, reads_other, slot_location, slot_logged, slot_stores}
-use Rattle.run_orders.specs.Orders.{Draws, FromStart, FromStore, IsWanted, KeepsOrder, Spot, StoresAt, slot_in, value_at}
-use Rattle.run_orders.proofs.Begun.{location_at, one_slot, slot_action, spot, storing_access}
+use Rattle.run_orders.specs.Orders.{KeepsOrder, Spot, StoresAt, slot_in}
+use Rattle.run_orders.proofs.Begun.{location_at, spot, storing_access}
 use Rattle.run_orders.proofs.Going.{reading_access}
-use Rattle.run_orders.proofs.Gone.{deed, deeds}
-use Rattle.run_orders.proofs.Making.{run_along_lem, slot_thread}
-use Rattle.run_orders.proofs.Opens.{NoStoreIn}
 
 -- Kept order.
 
