@@ -46,7 +46,8 @@ module _ {test : LitmusTest} {options : Options} {old : Player} (sound : IsSound
       (mid then : Contents) (rest : mid ≡ record old.buffer { entries = drop count old.buffer.entries })
       (written : ℕ) (written_is : written ≡ value_at table old.thread old.place old.iteration)
       (acted : then ≡ record mid {
-        entries = entries_after (slice_index_or body old.place (DoStore 0 0)) written old.iteration old.place mid.entries;
+        entries = entries_after (slice_index_or body old.place (DoStore 0 0)) written old.iteration old.place
+            mid.entries;
       })
       (i' p' : ℕ) (further : i' * length body + p' ≡ old.iteration * length body + old.place + 1)
       (drains : Asking) (asked : drains ≡ record old.drains { taken = old.drains.taken + 1 }) where

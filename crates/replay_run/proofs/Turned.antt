@@ -86,7 +86,8 @@ module _ (test : LitmusTest) (table : Table) (t i p : ℕ) (numbers : AreOf test
   event_made (DoStore loc w) s ws es at low buffer same = refl
   event_made (DoLoad reg loc) s ws es at low buffer same =
       let x = load_is reg loc at in
-      let own : newest_value loc es ≡ newest loc (s.buffer t) = sym (newest-writes loc es) ∙ ap (newest loc) (sym buffer)
+      let own : newest_value loc es ≡ newest loc (s.buffer t) =
+      sym (newest-writes loc es) ∙ ap (newest loc) (sym buffer)
       in
       ap (λ v. event t i p (Read v)) (ap (λ o. unwrap_or o (slice_index ws loc)) own
       ∙ ap (unwrap_or (newest loc (s.buffer t))) (same.each loc low)
@@ -97,7 +98,8 @@ module _ (test : LitmusTest) (table : Table) (t i p : ℕ) (numbers : AreOf test
 
   words_made : (action : Instr) (s : State) (ws : List ℕ) → slice_get (body_of test t) p ≡ Some action
       → AreSame ws s.memory
-      → AreSame (words_after action (value_at table t p i) ws) (after test s (event_now test s t (slot_of action))).memory
+      → AreSame (words_after action (value_at table t p i) ws)
+      (after test s (event_now test s t (slot_of action))).memory
   words_made (DoStore loc w) s ws at same = same
   words_made (DoLoad reg loc) s ws at same = same
   words_made Fence s ws at same = same

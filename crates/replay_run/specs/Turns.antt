@@ -68,8 +68,9 @@ pub record MakesAction (test : LitmusTest) (table : Table) (options : Options) (
   pub action : Instr
   pub at : slice_get (body_of test old.thread) old.place ≡ Some action
   pub made : made_by test new ≡ made_by test old + 1
-  pub buffer : new.buffer.entries ≡ entries_after action (value_at table old.thread old.place old.iteration) old.iteration
-      old.place (left_before test options old action)
+  pub buffer : new.buffer.entries
+      ≡ entries_after action (value_at table old.thread old.place old.iteration) old.iteration old.place
+      (left_before test options old action)
   pub words : ws' ≡ words_after action (value_at table old.thread old.place old.iteration)
       (words_with ws (drained_before test options old action))
   pub events : es' ≡ (es ++ map (drained old.thread) (drained_before test options old action)) ++ record {
