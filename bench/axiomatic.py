@@ -6,7 +6,7 @@ A candidate gives each read a source (rf) and each location an order of its writ
 - global happens-before: the pairs of program order but those from a write to a read, the order that MFENCE keeps (mfence), the pairs from
   a write to a read of which one is locked (implied), rfe, co and fr have no cycle.
 
-Nothing of it is shared with the programs, nor with bench/operational.py; tools/litmus.py reads the texts."""
+Nothing of it is shared with the programs, nor with tools/operational.py; tools/litmus.py reads the texts."""
 import collections
 import itertools
 
