@@ -305,3 +305,14 @@ def is_hidden(test, kind):
 def is_ordered(test, group):
     """Whether each atom tells of every store of its location whether it comes before or after the read."""
     return all(kind.form != "rf" or ({t for t, _, _ in test.stores(kind.loc)} == {kind.reader} and not is_hidden(test, kind)) for kind in group)
+
+
+def is_loose(kind):
+    """Whether the atom may hold at a frame by an iteration of its writer that is not the frame's."""
+    return kind.form == "rf" and kind.writer != kind.reader
+
+
+def faithfulness(test, kinds):
+    """What `perple_tool faithful` says: the first loose atom, with its conjunction from 0 and its number from 1."""
+    number = next((number for number, kind in enumerate(kinds) if is_loose(kind)), None)
+    return "Faithful\n" if number is None else "Loose %d %d\n" % (sum(end <= number for end in test.ends), number + 1)

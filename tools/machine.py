@@ -147,6 +147,11 @@ def passes(kind, value, m):
     return value < kind.k * m + 1
 
 
+def within(kind):
+    """What an atom asks within a frame: an rf atom, too, takes the named store of the frame's own iteration, and no later one."""
+    return kind._replace(form="exact") if kind.form == "rf" else kind
+
+
 def read_by(kind, logs, i):
     return logs[kind.reader][i][kind.column]
 
@@ -233,6 +238,13 @@ def front_of(test, n, counts_all):
     if counts_all:
         lines.append("Frames %d" % n ** len(test.bodies))
     return lines
+
+
+def counted_within(test, kinds, logs, n):
+    """The report of `perple_tool count`."""
+    groups = groups_of(test, [within(kind) for kind in kinds])
+    seen = exhaustive(groups, logs, n, len(test.bodies))
+    return "\n".join(front_of(test, n, True) + ["Within %d" % seen, "Seen yes" if seen else "Seen no", ""])
 
 
 def report(test, kinds, logs, n, count, shows_hits=True):
