@@ -45,8 +45,8 @@ ends_no : (before : List ℕ) → penultimate (before ++ codes "Seen no\n") ≡ 
 unfolding penultimate second
 ends_no before = rw (reverse-append before (codes "Seen no\n")) refl
 
-differ : (yes no : ℕ) → yes ≡ no → yes ≡ 115 → no ≡ 111 → ⊥
-differ yes no same is other = omega arith
+differ : (a b : ℕ) → a ≡ b → a ≡ 115 → b ≡ 111 → ⊥
+differ a b same is other = omega arith
 
 -- what stands before the last line of a report
 front_of : CountReport → List ℕ
