@@ -1,4 +1,3 @@
-use Rattle.std.proofs.Common.{sym}
 use Rattle.perple_core.proofs.Working.{schedule_text}
 use Rattle.perple_core.proofs.work.replayed.Goals as goal
 
