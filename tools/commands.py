@@ -1,4 +1,5 @@
 """The words of the two programs, as docs/COMMANDS.md has them: which word of a line is wrong, and what would be right."""
+import collections
 import difflib
 import functools
 import re
@@ -9,6 +10,9 @@ import programs
 GREATEST = 2 ** 64 - 1
 NO_COMMAND = "these are the commands: %s"
 
+# What an option takes: a word, or a number within limits.
+Either = collections.namedtuple("Either", "word limits")
+
 
 @functools.cache
 def commands_of(program):
@@ -16,7 +20,7 @@ def commands_of(program):
 
 
 class Commands:
-    """The commands of a program, each with the names of its values; and the options of `run` and `replay`."""
+    """The commands of a program, each with the names of its values; and the options of `run`, `replay` and `count`."""
 
     def __init__(self, program):
         text = advice.page("COMMANDS.md")
@@ -30,11 +34,22 @@ class Commands:
         self.taking = re.findall(r"`(\w+)`", taking[1]) if taking else []
         self.iterations = limits_in(re.search(r"N is [^.]*", text)[0])
         self.options = dict(option_of(row) for row in advice.rows(about) if row[0].startswith("`--"))
+        self.borrowed = borrowed_in(about)
 
     def options_for(self, command):
         """The names of a command's options, each with its choices or its limits."""
         shared = self.options if command in self.taking else {}
-        return {**shared, **{name: (0, GREATEST) for name in self.own[command]}}
+        return {**shared, **self.borrowed.get(command, {}), **{name: (0, GREATEST) for name in self.own[command]}}
+
+
+def borrowed_in(about):
+    """For a command that takes options of `perple`: these, and `--order` with the word that it may have there."""
+    said = re.search(r"these options of `perple`[^:]*:([^.]*)", about)
+    if said is None:
+        return {}
+    command, word = re.search(r"`(\w+) N --order ([a-z]+)`", about[said.start():]).groups()
+    lent = commands_of("perple").options
+    return {command: {**{name: lent[name] for name in re.findall(r"`--(\w+) ", said[1])}, "order": Either(word, (0, GREATEST))}}
 
 
 def limits_in(text):
@@ -110,10 +125,14 @@ class Line:
 
     def takes(self, name, value):
         choices = self.options[name]
+        if isinstance(choices, Either):
+            return value == choices.word or is_number(value, choices.limits)
         return value in choices if isinstance(choices, list) else is_number(value, choices)
 
     def wanted(self, name):
         choices = self.options[name]
+        if isinstance(choices, Either):
+            return "`%s`, or %s" % (choices.word, between(choices.limits))
         return "one of `%s`" % "`, `".join(choices) if isinstance(choices, list) else between(choices)
 
     def value(self, at, left):
