@@ -9,7 +9,8 @@ REGISTERS = ("eax", "ebx", "ecx", "edx", "esi", "edi")
 KINDS = ("NotX86", "Header", "Initial", "NonZeroInitial", "Column", "Instruction", "NotConstant", "Condition", "Forall", "MemoryCondition",
          "Disjunction", "Trailing")
 PROFILE = ("NoSuchThread", "NotLoaded", "NoStore", "Ambiguous", "ZeroStored", "NoWriter", "SeveralWriters", "OwnWriter")
-TOKEN = re.compile(rb"(?P<name>[A-Za-z_][A-Za-z0-9_]*)|(?P<number>[0-9]+)|(?P<both>/\\)|(?P<either>\\/)|(?P<symbol>[()\[\]{};|,:=$~])")
+TOKEN = re.compile(rb"(?P<skipped>[ \t\r\n]+|\(\*[\s\S]*?\*\))|(?P<name>[A-Za-z_][A-Za-z0-9_]*)|(?P<number>[0-9]+)|(?P<open>\((?=\*))|"
+                   rb"(?P<symbol>/\\|\\/|[()\[\]{};|,:=$~])|(?P<other>[\s\S])")
 
 Token = collections.namedtuple("Token", "kind text line at")
 Action = collections.namedtuple("Action", "kind loc value reg")  # kind: store, load, fence, exchange
@@ -107,22 +108,16 @@ class Reader:
 
     def cut(self):
         """The tokens from here on, the last first."""
-        tokens, at, line = [], self.at, self.line_at(self.at)
-        while at < len(self.text):
-            found = TOKEN.match(self.text, at)
-            end = at + 1
-            if self.text.startswith(b"(*", at) and self.text.find(b"*)", at + 2) >= 0:
-                end = self.text.find(b"*)", at + 2) + 2
-            elif self.text.startswith(b"(*", at):
-                tokens.append(Token("other", "(", line, at))
-            elif found:
-                end = found.end()
-                word = found.group().decode("ascii")
-                tokens.append(Token(word if found.lastgroup in ("symbol", "both", "either") else found.lastgroup, word, line, at))
-            elif self.text[at] not in b" \t\r\n":
-                tokens.append(Token("other", "", line, at))
-            line += self.text.count(b"\n", at, end)
-            at = end
+        tokens, line = [], self.line_at(self.at)
+        for found in TOKEN.finditer(self.text, self.at):
+            kind, word = found.lastgroup, found.group()
+            if kind == "skipped":
+                line += word.count(b"\n")
+            elif kind in ("open", "other"):  # a comment that does not end, or a byte that begins no token
+                tokens.append(Token("other", "(" if kind == "open" else "", line, found.start()))
+            else:
+                word = word.decode("ascii")
+                tokens.append(Token(word if kind == "symbol" else kind, word, line, found.start()))
         self.tokens = tokens[::-1]
 
     def peek(self):
