@@ -13,13 +13,16 @@ use clap::error::ErrorKind;
 use clap::{Arg, ArgMatches};
 use perp_base::{MOST_ITERATIONS, MOST_PIECES, Options};
 use std::alloc::{AllocError, Global};
+use thiserror::Error;
 
 /// Why the words give no command.
-#[derive(Clone, Copy, Debug, PartialEq, Eq)]
+#[derive(Clone, Copy, Debug, Error, PartialEq, Eq)]
 pub enum WordsError {
     /// The words are none of the commands.
+    #[error("usage: perple COMMAND [N] [OPTIONS]")]
     Usage,
     /// Memory was refused.
+    #[error("out of memory")]
     Memory,
 }
 

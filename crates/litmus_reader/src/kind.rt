@@ -5,6 +5,8 @@ ghost use Rattle.litmus_reader.specs.Answer.{kind_number};
 
 use perp_base::NoMemory;
 use std::alloc::{AllocError, AllocFailed};
+use std::error::Error;
+use std::fmt;
 use x86_subset::Shape;
 
 /// What is met first in a text that has not the form. The lines are those that come with it.
@@ -71,6 +73,21 @@ pub enum LitmusError {
     /// Memory ran out.
     Memory,
 }
+
+/// As the programs tell it: `line 5: kind 6 Instruction`, `limit threads 8` or `out of memory`.
+impl fmt::Display for LitmusError {
+    fn fmt<W: fmt::Write>(&self, f: &mut fmt::Formatter<W>) -> fmt::Result {
+        match self {
+            LitmusError::Bad { kind, line } => {
+                write!(f, "line {line}: kind {} {kind:?}", kind.number())
+            }
+            LitmusError::Over(shape) => write!(f, "{shape}"),
+            LitmusError::Memory => write!(f, "out of memory"),
+        }
+    }
+}
+
+impl Error for LitmusError {}
 
 impl From<NoMemory> for LitmusError {
     ghost from_gives = { λ _ e. e ≡ Memory };

@@ -1,12 +1,15 @@
 //! The two refusals that have nothing more to tell.
 use std::alloc::{AllocError, AllocFailed};
+use thiserror::Error;
 
 /// A read or a write failed. It is answered only where the count of faults of the source or sink rose in the call.
-#[derive(Clone, Copy, Debug, PartialEq, Eq)]
+#[derive(Clone, Copy, Debug, Error, PartialEq, Eq)]
+#[error("reading or writing failed")]
 pub struct Failed;
 
 /// Memory ran out.
-#[derive(Clone, Copy, Debug, PartialEq, Eq)]
+#[derive(Clone, Copy, Debug, Error, PartialEq, Eq)]
+#[error("out of memory")]
 pub struct NoMemory;
 
 /// So that `?` hands on a refusal of std's allocator.

@@ -9,6 +9,7 @@ ghost use Rattle.perp_base.specs.declared.source.ReadError.TheVariants.{Memory};
 
 use crate::Failed;
 use std::alloc::{AllocError, Global};
+use thiserror::Error;
 
 /// Where bytes come from. A source may tell contracts which bytes it has left, and then tells them after each call too.
 pub trait Source {
@@ -26,13 +27,16 @@ pub trait Source {
 }
 
 /// Why an input was not read whole.
-#[derive(Clone, Copy, Debug, PartialEq, Eq)]
+#[derive(Clone, Copy, Debug, Error, PartialEq, Eq)]
 pub enum ReadError {
     /// A read failed.
+    #[error("reading failed")]
     Fault,
     /// The source had more bytes left than the limit.
+    #[error("the input is over the limit")]
     TooLong,
     /// Memory ran out.
+    #[error("out of memory")]
     Memory,
 }
 

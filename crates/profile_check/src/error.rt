@@ -5,6 +5,8 @@ ghost use Rattle.profile_check.specs.declared.error.ProfileError.TheVariants.{Me
 use crate::kind::ProfileKind;
 use perp_base::NoMemory;
 use std::alloc::AllocFailed;
+use std::error::Error;
+use std::fmt;
 
 /// Why `check` refuses a test.
 #[derive(Clone, Copy, Debug, PartialEq, Eq)]
@@ -14,6 +16,20 @@ pub enum ProfileError {
     /// Memory ran out.
     Memory,
 }
+
+/// As the programs tell it: `atom 1: kind 3 NoStore` or `out of memory`.
+impl fmt::Display for ProfileError {
+    fn fmt<W: fmt::Write>(&self, f: &mut fmt::Formatter<W>) -> fmt::Result {
+        match self {
+            ProfileError::Outside { atom, kind } => {
+                write!(f, "atom {atom}: kind {} {kind:?}", kind.number())
+            }
+            ProfileError::Memory => write!(f, "out of memory"),
+        }
+    }
+}
+
+impl Error for ProfileError {}
 
 impl From<NoMemory> for ProfileError {
     ghost from_gives = { λ _ e. e ≡ Memory };

@@ -3,13 +3,16 @@ ghost use Rattle.std.specs.Prelude.{◌≡◌};
 ghost use Rattle.program_edge.specs.declared.unmade.Unmade.TheVariants.{Memory};
 
 use perp_base::NoMemory;
+use thiserror::Error;
 
 /// Why a program's call is not made.
-#[derive(Clone, Copy, Debug, PartialEq, Eq)]
+#[derive(Clone, Copy, Debug, Error, PartialEq, Eq)]
 pub enum Unmade {
     /// Memory ran out.
+    #[error("out of memory")]
     Memory,
     /// The system refuses the words, as where one is no UTF-8.
+    #[error("the system refuses the words")]
     Words,
 }
 

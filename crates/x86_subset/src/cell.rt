@@ -8,6 +8,7 @@ ghost use Rattle.x86_subset.specs.Raw.{form_of};
 use crate::form::{Keyword, Slot, Span, whole};
 use crate::instr::Reg;
 use crate::token::{Token, TokenKind};
+use thiserror::Error;
 
 /// What a cell says, with locations by their bytes in the text. `value` is the number after `$` or without it.
 #[derive(Clone, Copy, Debug, PartialEq, Eq)]
@@ -29,13 +30,16 @@ pub enum Raw {
 }
 
 /// Why a cell says nothing.
-#[derive(Clone, Copy, Debug, PartialEq, Eq)]
+#[derive(Clone, Copy, Debug, Error, PartialEq, Eq)]
 pub enum InstrError {
     /// The first token is not MOV, MFENCE or XCHG.
+    #[error("not MOV, MFENCE or XCHG")]
     Unknown,
     /// The tokens after it have none of the forms.
+    #[error("operands of none of the forms")]
     Operand,
     /// They have one, and its number is above 4,294,967,295.
+    #[error("a number above 4294967295")]
     Number,
 }
 

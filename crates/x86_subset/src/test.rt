@@ -11,6 +11,7 @@ use crate::form::Span;
 use crate::instr::{Instr, Reg};
 use perp_base::{MOST_ACTIONS, MOST_ATOMS, MOST_LOCATIONS, MOST_THREADS, Name};
 use std::marker::Model;
+use thiserror::Error;
 
 /// How a condition is asked for.
 #[derive(Clone, Copy, Debug, PartialEq, Eq)]
@@ -30,15 +31,19 @@ pub struct Atom {
 }
 
 /// A limit that a test passes, in the order in which they are tested.
-#[derive(Clone, Copy, Debug, PartialEq, Eq)]
+#[derive(Clone, Copy, Debug, Error, PartialEq, Eq)]
 pub enum Shape {
     /// More than 8 threads.
+    #[error("limit threads 8")]
     Threads,
     /// More than 16 locations.
+    #[error("limit locations 16")]
     Locations,
     /// More than 16 actions in one body.
+    #[error("limit instructions 16")]
     Instrs,
     /// More than 32 atoms.
+    #[error("limit atoms 32")]
     Atoms,
 }
 
