@@ -17,7 +17,7 @@ use Rattle.report_text.specs.declared.status.Status.{Status}
 use Rattle.perple_core.specs.Due.{IsDue, due_for_profile, has_too_many_frames}
 use Rattle.perple_core.specs.Top.{DemoCompletes, Ended}
 use Rattle.program_edge.proofs.Endings.{completes_of}
-use Rattle.perple_core.proofs.Endings.{laws}
+use Rattle.perple_core.proofs.Endings.{laws, without_stops}
 use Rattle.tso_words.specs.Seats.{Ended as Closed}
 use Rattle.perp_base.specs.View.{View}
 use Rattle.perple_core.specs.Texts.{frame_count_of}
@@ -92,5 +92,5 @@ pub demo_completes_of : (words : List (List ℕ)) (old new : View) (done : Close
     (untouched : Type 0) (status : Status)
     → Ended words old new done out_old out_new untouched status → DemoCompletes words out_old out_new status
 demo_completes_of words old new done out_old out_new untouched status ended = λ k is still.
-    completes_of (laws words old new done) status ended (Demo k) (demo_text_of k) (is, refl) (λ e. cc)
-    (demo_is_not_due k (demo_number_fits words k is)) (λ e. cc) still
+    without_stops (completes_of (laws words old new done) status ended (Demo k) (demo_text_of k) (is, refl) (λ e. cc)
+    (demo_is_not_due k (demo_number_fits words k is)) (λ e. cc) still)

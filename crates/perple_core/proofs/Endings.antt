@@ -1,5 +1,5 @@
 -- What the endings of the program rest on, and what its clauses say of them.
-use Rattle.std.proofs.Common.{◌≡◌, ℕ, ◌<◌, Bool, true, false, if◌then◌else◌, List, ◌++◌, length, take, Some, None, MatchOption, sym, ap, subst, ◌∙◌}
+use Rattle.std.proofs.Common.{◌≡◌, ◌⊎◌, ℕ, ◌<◌, Bool, true, false, if◌then◌else◌, List, ◌++◌, length, take, Some, None, MatchOption, inl, inr, sym, ap, subst, ◌∙◌}
 use Rattle.std.specs.declared.option.Option.{Option}
 use Rattle.report_text.specs.declared.status.Status.{Status}
 use Rattle.report_text.specs.declared.status.Status.TheVariants.{Whole, Memory, Usage, ReadFault, WriteFault, NotLitmus, OutsideProfile, Limit}
@@ -89,6 +89,7 @@ laws words old new done = record {
   long_input = is_of_input (λ s. s) IsOfText (λ a. a) (λ a. a) (λ a. a) (Limit Input) tt;
   due_input = λ command text s due.
       is_of_input (λ s. s) IsOfText (λ a. a) (λ a. a) (λ a. a) s (of_reading command due.answer s due.is);
+  stop_input = λ command text s stops. absurd stops;
   due_one = one_due;
   accepted = λ text a. record {
     command = a.command;
@@ -102,6 +103,12 @@ laws words old new done = record {
   told_left = λ command text told none. rw none at told.1;
   told_one = λ command text taken told took. taken_text command old new text taken told.1 took.takes;
 }
+
+-- no work of this program stops at a limit
+pub without_stops : {A B : Type 0} → A ⊎ (B ⊎ ⊥) → A ⊎ B
+without_stops (inl a) = inl a
+without_stops (inr (inl b)) = inr b
+without_stops (inr (inr none)) = absurd none
 
 -- the text of another command than a run leaves the field still
 still_text : (words : List (List ℕ)) (command : Command) (test : LitmusTest) (done : Closed) (text : List ℕ)

@@ -72,6 +72,7 @@ abbrev pub call_of : List (List ℕ) → View → View → Call Command Status
 call_of words old new = record {
   took = Took words old new;
   due = IsDue;
+  stops = λ command text status. ⊥;
   command = command_of words;
   reads = λ command. demo_number command ≡ None;
   core = λ status. status;
@@ -93,6 +94,7 @@ abbrev pub perple_program : Program Command Status
 perple_program = record {
   own = own_text_of;
   due = IsDue;
+  stops = λ command text status. ⊥;
   core = λ status. status;
   long = Limit Input;
 }

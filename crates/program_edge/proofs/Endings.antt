@@ -9,7 +9,7 @@ use Rattle.perp_base.specs.Causes.{Rose}
 use Rattle.perp_base.specs.View.{View}
 use Rattle.program_edge.specs.Ending.{Call, Ended, IsOutOfMemory, IsStillOr, IsUsage, Refused}
 use Rattle.program_edge.specs.Ending.Ended.{ended_refused, ended_whole, ended_part}
-use Rattle.program_edge.specs.Ending.Refused.{no_memory, no_command, no_reading, too_long, no_input}
+use Rattle.program_edge.specs.Ending.Refused.{no_memory, no_command, no_reading, too_long, no_input, at_limit}
 use Rattle.program_edge.specs.Field.{IsStill}
 use Rattle.program_edge.specs.View.{WroteAs}
 use Rattle.program_edge.proofs.Bytes.{appended_is, dropped_is, long_is_not_given, over_is_not_within}
@@ -49,6 +49,7 @@ pub record IsLawful {C S : Type 0} (call : Call C S) (answers : List ℕ → Typ
   pub core_one : (a b : Status) → call.core a ≡ call.core b → a ≡ b
   pub long_input : IsOfInput call.core call.long
   pub due_input : (c : C) (input : List ℕ) (status : S) → call.due c input (Some status) → IsOfInput call.core status
+  pub stop_input : (c : C) (input : List ℕ) (status : S) → call.stops c input status → IsOfInput call.core status
   pub due_one : (c : C) (input : List ℕ) (a b : Option S) → call.due c input a → call.due c input b → a ≡ b
   pub accepted : (text : List ℕ) → answers text → Accepted call
   pub took_is : (c : C) (input : List ℕ) → call.took c input → call.command ≡ Some c
@@ -108,6 +109,7 @@ module _ {C S : Type 0} {call : Call C S} {answers : List ℕ → Type 0} {told 
   refused_has_no_text _ (no_reading c is reads rose) = core_has_no_text ReadFault (λ e. cc) (λ e. cc)
   refused_has_no_text _ (too_long c is reads over) = laws.long_input.text
   refused_has_no_text _ (no_input status c input took due) = (laws.due_input c input status due).text
+  refused_has_no_text _ (at_limit status c input took none stops) = (laws.stop_input c input status stops).text
 
   -- what is due for what was taken is due for what was told
   same_due : (c d : C) (input taken : List ℕ) (a b : Option S) → told c input
@@ -118,6 +120,15 @@ module _ {C S : Type 0} {call : Call C S} {answers : List ℕ → Type 0} {told 
       let due_c : call.due c taken a = subst (λ (x : C). call.due x taken a) same due_taken in
       laws.due_one c input a b
       (subst (λ (xs : List ℕ). call.due c xs a) (laws.told_one c input taken tells took_c) due_c) due_told
+
+  -- a limit that the work on what was taken met is one of what was told
+  same_stop : (c d : C) (input taken : List ℕ) (status : S) → told c input → call.took d taken
+      → call.stops d taken status → call.stops c input status
+  same_stop c d input taken status tells took stops =
+      let same = one_command call.command c d (laws.told_is c input tells) (laws.took_is d taken took) in
+      let took_c : call.took c taken = subst (λ (x : C). call.took x taken) same took in
+      subst (λ (xs : List ℕ). call.stops c xs status) (laws.told_one c input taken tells took_c)
+      (subst (λ (x : C). call.stops x taken status) same stops)
 
   not_due : (c : C) (input text : List ℕ) (refusal : S) → answers text → told c input
       → call.due c input (Some refusal) → ⊥
@@ -200,6 +211,8 @@ module _ {C S : Type 0} {call : Call C S} {answers : List ℕ → Type 0} {told 
   usage_only _ (ended_refused _ (too_long c is reads over) leaves kept) = λ e. absurd (laws.long_input.usage e)
   usage_only _ (ended_refused _ (no_input status c input took due) leaves kept) = λ e.
       absurd ((laws.due_input c input status due).usage e)
+  usage_only _ (ended_refused _ (at_limit status c input took none stops) leaves kept) = λ e.
+      absurd ((laws.stop_input c input status stops).usage e)
 
   usage_each : (status : S) → Ended call answers ran done out_old out_new untouched status
       → call.command ≡ None → (status ≡ call.core Usage) ⊎ (status ≡ call.core Memory)
@@ -212,6 +225,8 @@ module _ {C S : Type 0} {call : Call C S} {answers : List ℕ → Type 0} {told 
   usage_each _ (ended_refused _ (no_reading c is reads rose) leaves kept) = λ none. absurd (cc)
   usage_each _ (ended_refused _ (too_long c is reads over) leaves kept) = λ none. absurd (cc)
   usage_each _ (ended_refused _ (no_input status c input took due) leaves kept) = λ none.
+      let is = laws.took_is c input took in absurd (cc)
+  usage_each _ (ended_refused _ (at_limit status c input took none_due stops) leaves kept) = λ none.
       let is = laws.took_is c input took in absurd (cc)
 
   pub usage_of : (status : S)
@@ -227,10 +242,10 @@ module _ {C S : Type 0} {call : Call C S} {answers : List ℕ → Type 0} {told 
       → Ended call answers ran done out_old out_new untouched status → (c : C) (input : List ℕ) → told c input
       → (call.reads c → length input ≤ call.limit) → call.due c input None
       → (call.reads c → Rose call.old.faults call.new.faults → ⊥) → (Rose out_old.faults out_new.faults → ⊥)
-      → (status ≡ call.core Whole) ⊎ (status ≡ call.core Memory)
+      → (status ≡ call.core Whole) ⊎ ((status ≡ call.core Memory) ⊎ call.stops c input status)
   completes_of _ (ended_whole text answer written) = λ _ _ _ _ _ _ _. inl refl
   completes_of _ (ended_part text answer rose written) = λ _ _ _ _ _ _ still. absurd (still rose)
-  completes_of _ (ended_refused _ no_memory leaves kept) = λ _ _ _ _ _ _ _. inr refl
+  completes_of _ (ended_refused _ no_memory leaves kept) = λ _ _ _ _ _ _ _. inr (inl refl)
   completes_of _ (ended_refused _ (no_command none same) leaves kept) = λ c input tells _ _ _ _.
       let is = laws.told_is c input tells in absurd (cc)
   completes_of _ (ended_refused _ (no_reading d is reads rose) leaves kept) = λ c input tells _ _ still _.
@@ -240,6 +255,8 @@ module _ {C S : Type 0} {call : Call C S} {answers : List ℕ → Type 0} {told 
   completes_of _ (ended_refused _ (no_input status d taken took due) leaves kept) = λ c input tells _ none _ _.
       let same : Some status ≡ None = same_due laws c d input taken (Some status) None tells took due none in
       absurd (cc)
+  completes_of _ (ended_refused _ (at_limit status d taken took _ stops) leaves kept) = λ c input tells _ none _ _.
+      inr (inr (same_stop laws c d input taken status tells took stops))
 
   pub due_of : (status : S)
       → Ended call answers ran done out_old out_new untouched status → (c : C) (input : List ℕ) (refusal : S)
@@ -260,6 +277,9 @@ module _ {C S : Type 0} {call : Call C S} {answers : List ℕ → Type 0} {told 
       let same : Some status ≡ Some refusal = same_due laws c d input taken (Some status) (Some refusal) tells took
       is_due due in
       inl (cc)
+  due_of _ (ended_refused _ (at_limit status d taken took none stops) leaves kept) = λ c input refusal tells _ due.
+      let same : None ≡ Some refusal = same_due laws c d input taken None (Some refusal) tells took none due in
+      absurd (cc)
 
   pub too_long_of : (status : S)
       → Ended call answers ran done out_old out_new untouched status → (c : C) (input : List ℕ) → call.command ≡ Some c
@@ -278,14 +298,16 @@ module _ {C S : Type 0} {call : Call C S} {answers : List ℕ → Type 0} {told 
       inl (refl, dropped_is call.old.bytes call.new.bytes input call.limit left over)
   too_long_of _ (ended_refused _ (no_input status d taken took due) leaves kept) = λ c input is reads left long.
       absurd (not_taken laws c d input taken is reads left long took)
+  too_long_of _ (ended_refused _ (at_limit status d taken took none stops) leaves kept) = λ c input is reads left long.
+      absurd (not_taken laws c d input taken is reads left long took)
 
   -- ---- what is left after
 
-  -- a status that comes only after the reading tells what was taken, and a refusal was due for it
+  -- a status that comes only after the reading tells what was taken, and a refusal was due for it, or its work met a limit
   pub taken_of : (P : S → Type 0) → (P (call.core Memory) → ⊥) → (P (call.core Usage) → ⊥)
       → (P (call.core ReadFault) → ⊥) → (P call.long → ⊥) → (status : S)
       → Ended call answers ran done out_old out_new untouched status → P status → (c : C) × (input : List ℕ)
-      × call.took c input × (HasText call.core status ⊎ call.due c input (Some status))
+      × call.took c input × (HasText call.core status ⊎ (call.due c input (Some status) ⊎ call.stops c input status))
   taken_of P memory usage fault long _ (ended_whole text answer written) = λ _.
       let a = laws.accepted text answer in (a.command, a.input, a.took, inl (inl refl))
   taken_of P memory usage fault long _ (ended_part text answer rose written) = λ _.
@@ -297,4 +319,6 @@ module _ {C S : Type 0} {call : Call C S} {answers : List ℕ → Type 0} {told 
   taken_of P memory usage fault long _ (ended_refused _ (too_long c is reads over) leaves kept) = λ p.
       absurd (long p)
   taken_of P memory usage fault long _ (ended_refused _ (no_input status c input took due) leaves kept) = λ _.
-      (c, input, took, inr due)
+      (c, input, took, inr (inl due))
+  taken_of P memory usage fault long _ (ended_refused _ (at_limit status c input took none stops) leaves kept) = λ _.
+      (c, input, took, inr (inr stops))

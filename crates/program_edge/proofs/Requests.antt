@@ -9,7 +9,7 @@ use Rattle.perp_base.specs.declared.source.ReadError.{ReadError}
 use Rattle.perp_base.specs.declared.source.ReadError.TheVariants as read
 use Rattle.report_text.specs.declared.status.Status.TheVariants.{Memory}
 use Rattle.program_edge.specs.Ending.{Call, Refused}
-use Rattle.program_edge.specs.Ending.Refused.{no_memory, no_command, no_reading, too_long, no_input}
+use Rattle.program_edge.specs.Ending.Refused.{no_memory, no_command, no_reading, too_long, no_input, at_limit}
 use Rattle.program_edge.specs.Request.{AnswersDue, AsksFor, HasInputWithin, IsComplete, IsInputOf, IsRefusal, IsRefusalOfText, IsRequestOf, Program, program_of}
 use Rattle.program_edge.specs.declared.request.Request.{Request}
 use Rattle.program_edge.specs.declared.request.Request.TheVariants.{Misused, NoMemory, Alone, Given}
@@ -68,7 +68,8 @@ module _ {C S : Type 0} {call : Call C S} {own : C → List ℕ} (taking : IsTak
   text_refused : (command : C) (text : List ℕ) (status : S) → call.took command text
       → IsRefusalOfText (program_of call own) command text status → Refused call status
   text_refused command text status took (inl memory) = subst (Refused call) (sym memory) no_memory
-  text_refused command text status took (inr due) = no_input status command text took due
+  text_refused command text status took (inr (inl due)) = no_input status command text took due
+  text_refused command text status took (inr (inr limit)) = at_limit status command text took limit.0 limit.1
 
   pub refused_of : (request : Request C) (status : S) → IsRequestOf call request
       → IsRefusal (program_of call own) request status → Refused call status
@@ -90,13 +91,15 @@ module _ {C S : Type 0} (program : Program C S)
     (due_one : (command : C) (text : List ℕ) (a b : Option S) → program.due command text a → program.due command text b
     → a ≡ b) where
   text_complete : (command : C) (text : List ℕ) (status : S) → IsRefusalOfText program command text status
-      → program.due command text None → status ≡ program.core Memory
-  text_complete command text status (inl memory) none = memory
-  text_complete command text status (inr due) none =
+      → program.due command text None → (status ≡ program.core Memory) ⊎ program.stops command text status
+  text_complete command text status (inl memory) none = inl memory
+  text_complete command text status (inr (inl due)) none =
       let same : Some status ≡ None = due_one command text (Some status) None due none in absurd (cc)
+  text_complete command text status (inr (inr limit)) none = inr limit.1
 
   refusal_complete : (request : Request C) (status : S) → IsRefusal program request status
-      → AsksFor program request (λ command text. program.due command text None) → status ≡ program.core Memory
+      → AsksFor program request (λ command text. program.due command text None)
+      → (status ≡ program.core Memory) ⊎ AsksFor program request (λ command text. program.stops command text status)
   refusal_complete Misused status is asks = absurd asks
   refusal_complete NoMemory status is asks = absurd asks
   refusal_complete (Alone command) status is asks = text_complete command (program.own command) status is asks
@@ -111,8 +114,10 @@ module _ {C S : Type 0} (program : Program C S)
   text_due : (command : C) (text : List ℕ) (status refusal : S) → IsRefusalOfText program command text status
       → program.due command text (Some refusal) → (status ≡ refusal) ⊎ (status ≡ program.core Memory)
   text_due command text status refusal (inl memory) due = inr memory
-  text_due command text status refusal (inr is) due =
+  text_due command text status refusal (inr (inl is)) due =
       let same : Some status ≡ Some refusal = due_one command text (Some status) (Some refusal) is due in inl (cc)
+  text_due command text status refusal (inr (inr limit)) due =
+      let same : None ≡ Some refusal = due_one command text None (Some refusal) limit.0 due in absurd (cc)
 
   refusal_due : (request : Request C) (status refusal : S) → IsRefusal program request status
       → AsksFor program request (λ command text. program.due command text (Some refusal))

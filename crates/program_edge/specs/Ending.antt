@@ -9,12 +9,13 @@ use Rattle.report_text.specs.declared.status.Status.{Status}
 use Rattle.report_text.specs.declared.status.Status.TheVariants.{Whole, Memory, Usage, ReadFault, WriteFault}
 use Rattle.program_edge.specs.Field.{IsStill}
 
--- a call whose commands are of `C` and whose statuses are of `S`: what a command takes and what is due for it, what the
--- words say, which commands read the source, how a status of `report_text` is one of them, and the one of a source that
--- has more bytes than the limit
+-- a call whose commands are of `C` and whose statuses are of `S`: what a command takes and what is due for it, the
+-- limits that its work may meet where nothing is due, what the words say, which commands read the source, how a status
+-- of `report_text` is one of them, and the one of a source that has more bytes than the limit
 pub record Call (C S : Type 0) : Type 1 where
   pub took : C → List ℕ → Type 0
   pub due : C → List ℕ → Option S → Type 0
+  pub stops : C → List ℕ → S → Type 0
   pub command : Option C
   pub reads : C → Type 0
   pub core : Status → S
@@ -23,7 +24,7 @@ pub record Call (C S : Type 0) : Type 1 where
   pub old : View
   pub new : View
 
--- the causes of the refusals before a run
+-- the causes of the refusals before a run, and of an answer that stops at a limit
 pub data Refused {C S : Type 0} (call : Call C S) : S → Type 0 where
   no_memory : Refused call (call.core Memory)
   no_command : call.command ≡ None → call.new ≡ call.old → Refused call (call.core Usage)
@@ -33,6 +34,8 @@ pub data Refused {C S : Type 0} (call : Call C S) : S → Type 0 where
       → IsOver call.old.bytes call.new.bytes call.limit → Refused call call.long
   no_input : (status : S) (command : C) (input : List ℕ) → call.took command input
       → call.due command input (Some status) → Refused call status
+  at_limit : (status : S) (command : C) (input : List ℕ) → call.took command input → call.due command input None
+      → call.stops command input status → Refused call status
 
 -- no step was made on the field, or memory ran out after a run
 abbrev pub IsStillOr : {S : Type 0} → (Status → S) → Closed → Type 0 → S → Type 0

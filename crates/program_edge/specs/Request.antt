@@ -14,11 +14,13 @@ use Rattle.program_edge.specs.declared.request.Request.{Request}
 use Rattle.program_edge.specs.declared.request.Request.TheVariants.{Misused, NoMemory, Alone, Given}
 
 -- a program whose commands are of `C` and whose statuses are of `S`: the text of a command that comes alone, which is
--- empty where the command should read one; what is due for a command and its text; how a status of `report_text` is one
--- of the program's, and the one of an input that is too long
+-- empty where the command should read one; what is due for a command and its text, and the limits that its work may
+-- meet where nothing is due; how a status of `report_text` is one of the program's, and the one of an input that is too
+-- long
 pub record Program (C S : Type 0) : Type 1 where
   pub own : C → List ℕ
   pub due : C → List ℕ → Option S → Type 0
+  pub stops : C → List ℕ → S → Type 0
   pub core : Status → S
   pub long : S
 
@@ -40,9 +42,14 @@ AsksFor program (Given command (Err why)) holds = ⊥
 
 -- ---- refusals
 
--- a command on a text is refused by what is due for it, or for want of memory
+-- nothing is due for the text, and the work on it stops at a limit
+abbrev pub IsAtLimit : {C S : Type 0} → Program C S → C → List ℕ → S → Type 0
+IsAtLimit program command text status = program.due command text None × program.stops command text status
+
+-- a command on a text is refused by what is due for it, or at a limit of its work, or for want of memory
 abbrev pub IsRefusalOfText : {C S : Type 0} → Program C S → C → List ℕ → S → Type 0
-IsRefusalOfText program command text status = (status ≡ program.core Memory) ⊎ program.due command text (Some status)
+IsRefusalOfText program command text status =
+    (status ≡ program.core Memory) ⊎ (program.due command text (Some status) ⊎ IsAtLimit program command text status)
 
 -- the status of an input that was not read
 abbrev pub status_of_reading : {C S : Type 0} → Program C S → ReadError → S
@@ -58,10 +65,11 @@ IsRefusal program (Alone command) status = IsRefusalOfText program command (prog
 IsRefusal program (Given command (Ok input)) status = IsRefusalOfText program command input.items status
 IsRefusal program (Given command (Err why)) status = status ≡ status_of_reading program why
 
--- where nothing is due for the text, only want of memory keeps the answer back
+-- where nothing is due for the text, only want of memory or a limit of the work keeps the answer back
 abbrev pub IsComplete : {C S T : Type 0} → Program C S → Request C → Result T S → Type 0
 IsComplete program request answer = AsksFor program request (λ command text. program.due command text None)
-    → IfErr answer (λ status. status ≡ program.core Memory)
+    → IfErr answer (λ status. (status ≡ program.core Memory)
+    ⊎ AsksFor program request (λ command text. program.stops command text status))
 
 -- what is due for the text is answered, and it yields to want of memory
 abbrev pub AnswersDue : {C S T : Type 0} → Program C S → Request C → Result T S → Type 0
@@ -92,6 +100,7 @@ abbrev pub program_of : {C S : Type 0} → Call C S → (C → List ℕ) → Pro
 program_of call own = record {
   own = own;
   due = call.due;
+  stops = call.stops;
   core = call.core;
   long = call.long;
 }

@@ -1,6 +1,6 @@
 use Rattle.std.proofs.Common.{◌∙◌}
 use Rattle.program_edge.proofs.Endings.{completes_of, due_of, ended_from, memory_of, too_long_of, usage_of}
-use Rattle.perple_core.proofs.Endings.{ends_of, field_of, laws, whole_of, part_of}
+use Rattle.perple_core.proofs.Endings.{ends_of, field_of, laws, whole_of, part_of, without_stops}
 use Rattle.perple_core.proofs.Headlines.{reads_of, fits_of, texts_of}
 use Rattle.perple_core.proofs.Demos.{demo_completes_of}
 use Rattle.perple_core.proofs.Requests.{call_answers, call_leaves, call_refused}
@@ -25,7 +25,8 @@ returns-clause-usage g c = usage_of (laws _ _ _ _) _ (returns-clause-ended g c)
 
 pub returns-clause-complete : goal.returns-clause-complete
 returns-clause-complete g c =
-    λ command text is told. completes_of (laws _ _ _ _) _ (returns-clause-ended g c) command text (is, told)
+    λ command text is told short none read still.
+    without_stops (completes_of (laws _ _ _ _) _ (returns-clause-ended g c) command text (is, told) short none read still)
 
 pub returns-clause-read : goal.returns-clause-read
 returns-clause-read g c = ends_of (returns-clause-ended g c)
