@@ -1,5 +1,5 @@
 -- A line of words stands for the command that is read from it.
-use Rattle.std.proofs.Common.{◌+◌, append_assoc, suc, take, ap₂, ◌≡◌, ◌∙◌, ◌⊎◌, inl, inr, drop, if◌then◌else◌, ◌++◌, ◌==◌, ℕ, Bool, codes, true, false, not, refl, sym, ap, subst, List, [], ◌∷◌, option_map, Option, Some, None, true≢false, lt-ltb, arith}
+use Rattle.std.proofs.Common.{◌+◌, append_assoc, suc, take, ap₂, ◌≡◌, ◌∙◌, ◌⊎◌, inl, inr, drop, if◌then◌else◌, ◌++◌, ◌==◌, ◌||◌, ℕ, Bool, codes, true, false, not, refl, sym, ap, subst, List, [], ◌∷◌, option_map, Option, Some, None, true≢false, lt-ltb, arith}
 use Rattle.std.specs.Prelude.{nat_lt, option_and_then}
 use Rattle.std.specs.List.{after_first, before_first, list_any, prefix_len}
 use Rattle.std.specs.Str.{bytes_eq}
@@ -9,11 +9,11 @@ use Rattle.command_words.specs.declared.job.Command.{Command}
 use Rattle.command_words.specs.declared.job.Command.TheVariants.{Run, Replay, Convert, Demo}
 use Rattle.perp_base.specs.declared.schedule.Schedule.{Schedule}
 use Rattle.perp_base.specs.declared.options.Options.{Options}
-use Rattle.command_words.specs.Job.{Asked, AskedCount}
+use Rattle.command_words.specs.Job.{Asked, AskedCount, AskedReplay, schedule_by}
 use Rattle.command_words.specs.declared.job.Count.{Count}
 use Rattle.command_words.specs.declared.job.Count.TheVariants.{Exhaustive}
-use Rattle.command_words.specs.Words.{Given, Text, command_of, convert_in, count_in, count_named, count_names, count_of, demo_in, given_by, given_in, is_among, is_given, is_hyphenated, is_once, is_option, job_in, job_of, name_in, number_of, number_within, options_of, or_else, order_of, replay_names, run_names, schedule_in, schedule_named, value_given, value_in, value_then, with_given}
-use Rattle.command_words.specs.Lines.{AsksFor, AsksForCount, CountsAreRead, Gives, LinesAreRead, LinesStandForOne, StandsFor, spelled, nothing, number, apart, joined, run, replay, convert, demo}
+use Rattle.command_words.specs.Words.{Given, Text, command_of, convert_in, count_in, count_named, count_names, count_of, demo_in, given_by, given_in, is_among, is_given, is_hyphenated, is_once, is_option, job_in, job_of, name_in, number_of, number_within, options_of, or_else, order_of, replay_in, replay_names, replay_of, run_names, schedule_in, schedule_named, schedule_names, value_given, value_in, value_then, with_given}
+use Rattle.command_words.specs.Lines.{AsksFor, AsksForCount, AsksForReplay, CountsAreRead, Gives, HasJobOf, IsJobOf, LinesAreRead, LinesStandForOne, ReplaysAreOfJobs, ReplaysAreRead, StandsFor, spelled, nothing, number, apart, joined, run, replay, convert, demo}
 use Rattle.command_words.proofs.Iterations.{no_number}
 use Rattle.command_words.proofs.Rows.{same_text, text_is}
 
@@ -395,6 +395,33 @@ module _ (value_of : Text → Option Text) where
         count = plain;
       })))
 
+  replay_values : (job : AskedReplay) → replay_of value_of ≡ Some job → value_of (codes "count") ≡ None
+      → value_of (codes "cut") ≡ None → Values
+  replay_values job e0 no_way no_cut =
+      option_and_then_some _ _ job e0 (λ options options_are e1.
+      some_of _ _ job e1 (λ seed_value order_is e2. record {
+        options = options;
+        run = run_values options options_are;
+        cut_value = 4096;
+        cut_is = rw no_cut refl;
+        order = plain_order seed_value order_is;
+        count = λ text is. absurd (none-some text (sym no_way ∙ is));
+      }))
+
+  -- the job of the same run
+  replay_job : (replay : AskedReplay) → replay_of value_of ≡ Some replay → value_of (codes "count") ≡ None
+      → value_of (codes "cut") ≡ None → (job : Asked) × (job_of value_of ≡ Some job) × IsJobOf replay job
+  replay_job replay e0 no_way no_cut =
+      option_and_then_some _ _ replay e0 (λ options options_are e1.
+      some_of _ _ replay e1 (λ seed_value order_is same.
+      let options_same : options ≡ replay.options = ap (λ (r : AskedReplay). r.options) same in
+      let schedule_same : schedule_by seed_value ≡ replay.schedule = ap (λ (r : AskedReplay). r.schedule) same in
+      (
+        record { options = options; count = Exhaustive; cut = 4096; order = seed_value },
+        rw (options_are, no_way, no_cut, order_is) refl,
+        record { options = options_same; schedule = schedule_same; count = refl; cut = refl },
+      )))
+
   plain_N : (text : Text) (o : Option Text) (n : ℕ) → o ≡ Some text
       → option_and_then (number_within 1 100000) o ≡ Some n → is_hyphenated text ≡ false
   plain_N text o n is e =
@@ -503,6 +530,74 @@ count_asked words job e = option_and_then_some _ (given_in count_names words) jo
 
 pub counts_are_read : CountsAreRead
 counts_are_read words job = (count_read words job, count_asked words job)
+
+-- ---- a replay of which nothing is counted
+
+schedule_known : (name : Text) → is_among name schedule_names ≡ true → IsOptionName name
+schedule_known =
+    known_to (codes "order") (codes "seed" ∷ codes "rate" ∷ codes "buffer" ∷ []) order
+    (known_to (codes "seed") (codes "rate" ∷ codes "buffer" ∷ []) seed
+    (known_to (codes "rate") (codes "buffer" ∷ []) rate
+    (known_to (codes "buffer") [] buffer (λ name among. absurd (true≢false (sym among))))))
+
+no_way_given : (words : List Text) (replay : AskedReplay) (a : AsksForReplay words replay)
+    → value_given a.gs (codes "count") ≡ None
+no_way_given words replay a = not_given_to schedule_names (codes "count") refl refl a.gs words a.gives
+
+no_cut_given : (words : List Text) (replay : AskedReplay) (a : AsksForReplay words replay)
+    → value_given a.gs (codes "cut") ≡ None
+no_cut_given words replay a = not_given_to schedule_names (codes "cut") refl refl a.gs words a.gives
+
+replay_read : (words : List Text) (replay : AskedReplay) → AsksForReplay words replay → replay_in words ≡ Some replay
+replay_read words replay a =
+    ap (option_and_then (λ gs. replay_of (value_given gs)))
+    (given_is schedule_names schedule_known words a.gs a.gives (replay_values (value_given a.gs) replay a.numbers
+    (no_way_given words replay a) (no_cut_given words replay a))) ∙ a.numbers
+
+replay_asked : (words : List Text) (replay : AskedReplay) → replay_in words ≡ Some replay → AsksForReplay words replay
+replay_asked words replay e = option_and_then_some _ (given_in schedule_names words) replay e
+    (λ gs is said. record { gs = gs; gives = gives schedule_names words gs is; numbers = said })
+
+pub replays_are_read : ReplaysAreRead
+replays_are_read words replay = (replay_read words replay, replay_asked words replay)
+
+-- what is given to names is given to more names
+wider : (few many : List Text) → ((name : Text) → is_among name few ≡ true → is_among name many ≡ true)
+    → (gs : List Given) (words : List Text) → Gives few gs words → Gives many gs words
+wider few many more _ _ nothing = nothing
+wider few many more _ _ (number word gs words new rest) = number word gs words new (wider few many more gs words rest)
+wider few many more _ _ (apart name value gs words among new rest) =
+    apart name value gs words (more name among) new (wider few many more gs words rest)
+wider few many more _ _ (joined name value gs words among new rest) =
+    joined name value gs words (more name among) new (wider few many more gs words rest)
+
+schedule_among : (name : Text) → is_among name schedule_names ≡ true → is_among name replay_names ≡ true
+schedule_among name = go (bytes_eq (codes "order") name) (bytes_eq (codes "seed") name)
+    (bytes_eq (codes "rate") name) (bytes_eq (codes "buffer") name) _
+  where
+    go : (a b c d more : Bool) → (a || (b || (c || (d || false)))) ≡ true → (a || (b || (c || (d || more)))) ≡ true
+    go true b c d more e = refl
+    go false true c d more e = refl
+    go false false true d more e = refl
+    go false false false true more e = refl
+    go false false false false more e = absurd (true≢false (sym e))
+
+job_asked : (words : List Text) (replay : AskedReplay) → AsksForReplay words replay → HasJobOf replay words
+job_asked words replay a =
+    let j = replay_job (value_given a.gs) replay a.numbers (no_way_given words replay a) (no_cut_given words replay a) in
+    record {
+      job = j.0;
+      is = j.2;
+      command =
+          ap (option_map Replay) (job_read replay_names replay_known words j.0 (record {
+            gs = a.gs;
+            gives = wider schedule_names replay_names schedule_among a.gs words a.gives;
+            numbers = j.1;
+          }));
+    }
+
+pub replays_are_of_jobs : ReplaysAreOfJobs
+replays_are_of_jobs words replay e = job_asked words replay (replay_asked words replay e)
 
 -- ---- commands
 
