@@ -1,4 +1,5 @@
-use Rattle.command_words.proofs.Lined.{counts_are_read, lines_are_read, lines_stand_for_one, replays_are_of_jobs, replays_are_read}
+use Rattle.command_words.proofs.Lined.{counts_are_read, lines_are_read, lines_stand_for_one}
+use Rattle.command_words.proofs.Replays.{replays_are_of_jobs, replays_are_read}
 use Rattle.command_words.proofs.laws.lines_stand_for_their_commands.Goals as goal
 
 pub returns-clause-read : goal.returns-clause-read
