@@ -15,5 +15,6 @@ pub mod RunWidths
 pub mod RunJudged
 pub mod Repeats
 pub mod Replayed
+pub mod ScheduleRuns
 pub mod Counted
 pub mod CountLaws
