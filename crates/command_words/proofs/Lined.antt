@@ -421,8 +421,7 @@ module _ (value_of : Text → Option Text) where
       option_and_then_some _ _ asked e0 (λ options options_are e1.
       some_of _ _ asked e1 (λ seed_value order_is same.
       let options_same : options ≡ asked.options = ap (λ (r : AskedReplay). r.options) same in
-      let schedule_same : schedule_by seed_value ≡ asked.schedule = ap (λ (r : AskedReplay). r.schedule) same in
-      (
+      let schedule_same : schedule_by seed_value ≡ asked.schedule = ap (λ (r : AskedReplay). r.schedule) same in (
         record { options = options; count = Exhaustive; cut = 4096; order = seed_value },
         job_given options seed_value options_are no_way no_cut order_is,
         record { options = options_same; schedule = schedule_same; count = refl; cut = refl },

@@ -1,5 +1,5 @@
 -- The run of a schedule is written as a legal run.
-use Rattle.std.proofs.Common.{◌≡◌, ◌≤◌, ℕ, Bool, true, false, List, [], ◌∷◌, ◌++◌, length, Option, Some, None, codes, if◌then◌else◌, option_map, map, subst, sym, ◌∙◌, refl}
+use Rattle.std.proofs.Common.{◌≡◌, ◌≤◌, ℕ, Bool, true, false, List, [], ◌∷◌, ◌++◌, length, Option, Some, None, codes, if◌then◌else◌, option_map, map, subst, sym, refl}
 use Rattle.std.proofs.lemmas.Option.{none-some}
 use Rattle.std.specs.Str.{bytes_eq}
 use Rattle.x86_subset.specs.Test.{LitmusTest}
@@ -95,7 +95,8 @@ short_text : (words : List (List ℕ)) (litmus text : List ℕ) (job : AskedRepl
     → command_of words ≡ Some (Replay job) → CallOf words litmus text → length litmus ≤ 65536
 short_text words litmus text job is call =
     let a = answer_in words (Replay job) litmus text is call in
-    let parts : all_litmus litmus ≡ a.parts = (let e = a.accepts.parts_are in cc) in
+    let both : Some (all_litmus litmus) ≡ Some a.parts = a.accepts.parts_are in
+    let parts : all_litmus litmus ≡ a.parts = cc in
     subst (λ (p : Split). length p.litmus ≤ 65536) (sym parts) a.accepts.short
 
 pub replays_are_legal_lem : ReplaysAreLegal

@@ -70,7 +70,12 @@ pub(super) const REFUSED_REPLAYS: [(&str, &str, u8, &str); 8] = [
     ("replay 5 --count both", SB, 2, USAGE),
     ("replay 5 --cut 1", SB, 2, USAGE),
     ("replay 5 --order turns", SB, 2, USAGE),
-    ("replay 5", TWO_WRITERS, 5, "perple: line 4: kind 8 Condition\n"),
+    (
+        "replay 5",
+        TWO_WRITERS,
+        5,
+        "perple: line 4: kind 8 Condition\n",
+    ),
     ("replay 100000", BUSY, 12, MANY_EVENTS),
     ("replay 83334 --order 1", BUSY, 12, MANY_EVENTS),
 ];
