@@ -1,18 +1,18 @@
 //! The second program as one call over a source, two sinks and a field: it judges written runs, finds and shows runs,
-//! gives verdicts, tells how far apart the threads of a run were, and counts the frames of a run that are outcomes of
-//! the test.
+//! tells the run of a schedule, gives verdicts, tells how far apart the threads of a run were, and counts the frames of a
+//! run that are outcomes of the test.
 //!
 //! The clause `whole` of [`tool`] says what stands on `out` where a command ends whole: the text that `IsText`
-//! (`specs/Top`, by the texts of `specs/Texts` and `specs/Showing`) calls right for the test and the section of the
-//! input. The cause of each status is the clause `ended`; its clauses `usage`, `due` and `too_long` say that each
-//! refusal comes exactly where it is due (`specs/Due`), and `complete` that where none is due and nothing fails the
-//! answer is whole, or memory ran out. [`answer_text`] says the same of the bytes that were read, and asks nothing of a
-//! source or a sink (`specs/Answering`): so it speaks of standard input too. The law `written_runs_are_legal`
+//! (`specs/Top`, by the texts of `specs/Texts`, `specs/Showing` and others) calls right for the test and the section
+//! of the input. The cause of each status is the clause `ended`; its clauses `usage`, `due` and `too_long` say that
+//! each refusal comes exactly where it is due (`specs/Due`), and `complete` that where none is due and nothing fails
+//! the answer is whole, or memory ran out. [`answer_text`] says the same of the bytes that were read, and asks nothing
+//! of a source or a sink (`specs/Answering`): so it speaks of standard input too. The law `written_runs_are_legal`
 //! (`specs/Laws`) says that where a legal run of a test is written after the test's text, no refusal is due, and
-//! `Legal` with the number of its events is the one right answer. By `judgements_are_repeated` and
-//! `verdicts_are_repeated` the same words and the same input give the same text again, but for the cycles of a verdict,
-//! of which any are right. Where `count` writes `Seen yes` x86-TSO allows the condition (`seen_within_is_allowed`), and
-//! of a faithful test it counts the hits (`faithful_counts_are_hits`).
+//! `Legal` with the number of its events is the one right answer; `replays_are_legal` says so of what `replay` writes.
+//! By `judgements_are_repeated` and `verdicts_are_repeated` the same words and the same input give the same text
+//! again, but for the cycles of a verdict, of which any are right. Where `count` writes `Seen yes` x86-TSO allows the
+//! condition (`seen_within_is_allowed`), and of a faithful test it counts the hits (`faithful_counts_are_hits`).
 #![tactic(auto)]
 
 mod answer;
@@ -25,6 +25,7 @@ mod number_text;
 mod ordering;
 mod parts;
 mod reasons;
+mod replaying;
 mod request;
 mod running;
 mod showing;
@@ -39,7 +40,7 @@ mod writers;
 
 pub use answer::answer_text;
 pub use laws::{
-    faithful_counts_are_hits, judgements_are_repeated, seen_within_is_allowed,
+    faithful_counts_are_hits, judgements_are_repeated, replays_are_legal, seen_within_is_allowed,
     verdicts_are_repeated, written_runs_are_legal,
 };
 pub use perp_loop::{Gate, NoGate};
