@@ -14,7 +14,7 @@ returns-then-len-limit g c n p l a =
     let row : c.push.new.self.items ≡ front ++ v ∷ [] =
     c.in_ok-push.ensures.items ∙ ap (λ (z : List ℕ). z ++ v ∷ []) c.in_ok-row.ensures.items in
     let told : c.in-Some.possible ≡ p (front ++ v ∷ []) =
-    answer_at (λ row r. FnReturnsAt g.F.Fn c.args.decide.now row r) n p front v c.in-Some.possible l a (record {
+    answer_at (λ row r. FnReturnsAt g.F.Fn c.args.decide.now row (Ok r)) n p front v c.in-Some.possible l a (record {
       shown = c.deref.result;
       shows = c.deref.ensures.value ∙ row;
       says = record { met = c.in-Some.ensures };
@@ -36,7 +36,7 @@ loop-value-preserved g c = (
       let row : c.push.new.self.items ≡ front ++ v ∷ [] =
       c.in_ok-push.ensures.items ∙ ap (λ (z : List ℕ). z ++ v ∷ []) c.in_ok-row.ensures.items in
       let told : c.in-Some.possible ≡ p (front ++ v ∷ []) =
-      answer_at (λ row r. FnReturnsAt g.F.Fn c.args.decide.now row r) n p front v c.in-Some.possible l a (record {
+      answer_at (λ row r. FnReturnsAt g.F.Fn c.args.decide.now row (Ok r)) n p front v c.in-Some.possible l a (record {
         shown = c.deref.result;
         shows = c.deref.ensures.value ∙ row;
         says = record { met = c.in-Some.ensures };

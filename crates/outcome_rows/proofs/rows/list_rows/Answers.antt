@@ -34,7 +34,7 @@ loop-column-preserved g c =
 pub returns : goal.returns
 returns g c =
     let items : Vec ℕ Global → List ℕ = λ row. row.items in (
-      columns_end items (λ row r. FnReturnsAt g.F.Fn c.args.decide row r) c.args.columns.now c.loop-column.column-index
+      columns_end items (λ row r. FnReturnsAt g.F.Fn c.args.decide row (Ok r)) c.args.columns.now c.loop-column.column-index
           c.loop-column.rows.items c.loop-column-test.false c.loop-column.invariant.0,
       c.loop-column.invariant.1,
     )
