@@ -40,11 +40,7 @@ fn is_named(test: &Test, register: Register) -> bool
 }
 
 /// Adds the registers of a thread that the condition names.
-fn push_registers(
-    registers: &mut Vec<Register>,
-    test: &Test,
-    thread: u32,
-) -> Result<(), NoMemory>
+fn push_registers(registers: &mut Vec<Register>, test: &Test, thread: u32) -> Result<(), NoMemory>
     ensures { OnOk result (map register_seen registers.new.items
         ≡ map register_seen registers.old.items ++ filter (is_named test.now) (registers_of_thread thread)) }
 {
