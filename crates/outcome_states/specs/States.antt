@@ -1,11 +1,12 @@
 -- All states of a test, up to the limits of an answer. This project's own.
-use Rattle.std.specs.Prelude.{◌≡◌, ◌↔◌, ℕ, ◌<◌, ◌≤◌, Bool, true, Option, None, Some, List, length, take}
+use Rattle.std.specs.Prelude.{◌≡◌, ◌↔◌, ℕ, ◌<◌, ◌≤◌, Bool, true, false, Option, None, Some, List, length, take}
 use Rattle.x86_subset.specs.Test.{LitmusTest}
 use Rattle.outcome_rows.specs.Listing.{AreAllRows}
 use Rattle.outcome_rows.specs.Rows.{IsRow, Register}
 use Rattle.outcome_rows.specs.declared.rows.Stop.{Stop}
 use Rattle.outcome_rows.specs.declared.rows.Stop.TheVariants.{GaveUp, TooMany}
 use Rattle.row_decision.specs.Fronts.{IsFront}
+use Rattle.row_decision.specs.declared.front.Front.{Front}
 use Rattle.row_decision.specs.declared.front.Front.TheVariants as front
 use Rattle.row_decision.specs.declared.front.FrontAnswer.{FrontAnswer}
 use Rattle.outcome_states.specs.declared.limits.TheConstants.{MOST_STATES, MOST_STEPS}
@@ -16,6 +17,12 @@ pub record TakesAllSteps (test : LitmusTest) (registers : List Register) (values
   pub decided : IsFront test (take (length values) registers) values MOST_STEPS answer
   pub gave_up : answer.front ≡ front.GaveUp
   pub all : answer.steps ≡ MOST_STEPS
+
+-- what an answer tells: whether some execution ends so, or nothing
+abbrev pub told : Front → Option Bool
+told front.Possible = Some true
+told front.Impossible = Some false
+told front.GaveUp = None
 
 -- what is told of values of the first registers: whether some execution ends with them, or that all steps were taken
 abbrev pub IsTold : LitmusTest → List Register → List ℕ → Option Bool → Type 0

@@ -1,5 +1,6 @@
 //! The values that can come in each register.
-ghost use Rattle.std.specs.Prelude.{◌≡◌, IfOk, OnOk, map};
+ghost use Rattle.std.specs.Prelude.{◌≡◌, IfOk, OnOk, map, nat_le};
+ghost use Rattle.std.specs.List.{position};
 ghost use Rattle.seq_conv.specs.Numbers.{AreOf};
 ghost use Rattle.outcome_rows.specs.Listing.{columns_of_values, put_value, risen, values_stored};
 ghost use Rattle.outcome_rows.specs.Rows.{HoldReads, HoldsRead};
@@ -12,11 +13,18 @@ use std::alloc::Global;
 use verdict::{Node, location};
 use x86_subset::Test;
 
+/// The place of the first value that is no less than this one.
+fn place_for(values: &[u32], value: u32) -> Option<usize>
+    ensures { result ≡ position (λ other. nat_le value other) values.now }
+{
+    values.iter().position(|other| value <= *other)
+}
+
 /// Puts a value into values that rise, where it does not stand there.
 fn put_value(values: &mut Vec<u32>, value: u32) -> Result<(), NoMemory>
     ensures { OnOk result (values.new.items ≡ put_value value values.old.items) }
 {
-    match values.iter().position(|other| value <= *other) {
+    match place_for(values, value) {
         None => values.push(value)?,
         Some(place) => {
             if values[place] != value {

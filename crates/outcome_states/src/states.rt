@@ -3,7 +3,7 @@ ghost use Rattle.std.specs.Prelude.{◌≡◌, IfOk, MatchResult, map};
 ghost use Rattle.seq_conv.specs.Numbers.{AreOf};
 ghost use Rattle.outcome_rows.specs.Rows.{HoldReads};
 ghost use Rattle.row_decision.specs.Fronts.{register_seen};
-ghost use Rattle.outcome_states.specs.States.{AreFewStates, IsStopAt, IsTold};
+ghost use Rattle.outcome_states.specs.States.{AreFewStates, IsStopAt, IsTold, told};
 
 use crate::columns::columns;
 use crate::limits::{MOST_STATES, MOST_STEPS};
@@ -15,7 +15,9 @@ use std::alloc::Global;
 use x86_subset::Test;
 
 /// What is told of a front part of a row: whether some execution ends with it, or nothing.
-fn told(front: Front) -> Option<bool> {
+fn told(front: Front) -> Option<bool>
+    ensures { result ≡ told front }
+{
     match front {
         Front::Possible => Some(true),
         Front::Impossible => Some(false),
