@@ -1,4 +1,4 @@
-use Rattle.std.proofs.Common.{map, take}
+use Rattle.std.proofs.Common.{map, take, Ok}
 use Rattle.std.specs.Fn.{FnReturnsAt}
 use Rattle.outcome_rows.specs.Limits.{KeepsFronts}
 use Rattle.outcome_rows.proofs.rows.go_on.Given as goal

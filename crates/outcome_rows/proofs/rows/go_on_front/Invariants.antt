@@ -1,4 +1,4 @@
-use Rattle.std.proofs.Common.{◌≡◌, ℕ, ◌+◌, ◌≤◌, ◌++◌, List, Bool, length, map, take}
+use Rattle.std.proofs.Common.{◌≡◌, ℕ, ◌+◌, ◌≤◌, ◌++◌, List, Bool, length, map, take, Ok}
 use Rattle.std.specs.Fn.{FnReturnsAt}
 use Rattle.outcome_rows.specs.Limits.{KeepsFront}
 use Rattle.outcome_rows.proofs.rows.go_on_front.Given as goal

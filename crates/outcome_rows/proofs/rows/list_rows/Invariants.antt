@@ -1,4 +1,4 @@
-use Rattle.std.proofs.Common.{◌≡◌, ℕ, ◌≤◌, ◌∷◌, [], List, Bool, length, map, take}
+use Rattle.std.proofs.Common.{◌≡◌, ℕ, ◌≤◌, ◌∷◌, [], List, Bool, Ok, length, map, take}
 use Rattle.std.specs.Fn.{FnReturnsAt}
 use Rattle.outcome_rows.specs.Listing.{AnswersBy, rows_from}
 use Rattle.outcome_rows.proofs.rows.list_rows.Given as goal
