@@ -1,6 +1,5 @@
 -- The states of a test: what is told of front parts, and what their text says.
 use Rattle.std.proofs.Common.{◌≡◌, ℕ, zero, suc, ◌<◌, ◌≤◌, Bool, true, false, Option, List, [], ◌∷◌, length, map, min, take, refl, sym, ap, ◌∙◌, arith}
-use Rattle.std.proofs.lemmas.List.{length-map}
 use Rattle.std.specs.List.{AllZip}
 use Rattle.x86_subset.specs.Test.{LitmusTest}
 use Rattle.outcome_rows.specs.Listing.{AreAllRows}
@@ -42,9 +41,6 @@ told_is test registers values a d = go a.front refl d.front
         none : false ≡ true → ⊥
         none k = cc
     go GaveUp e h = record { answer = a; decided = d; gave_up = e; all = h }
-
-pub take_min : {X : Type 0} (n : ℕ) (xs : List X) → take (min n (length xs)) xs ≡ take n xs
-take_min n xs = ?
 
 -- ---- rows are as long as there are registers
 

@@ -10,7 +10,9 @@ use Rattle.x86_subset.specs.Test.{LitmusTest}
 use Rattle.seq_conv.specs.Sequence.{Site}
 use Rattle.verdict.specs.Edges.{node}
 use Rattle.outcome_rows.specs.Listing.{columns_of_values, put_value, risen, values_stored}
-use Rattle.outcome_rows.specs.Rows.{Register, text_value}
+use Rattle.outcome_rows.specs.Rows.{HoldReads, HoldsRead, Register, text_value}
+use Rattle.row_decision.specs.Fronts.{register_seen}
+use Rattle.row_decision.specs.declared.front.Register.{Register as RegisterOf}
 use Rattle.outcome_rows.proofs.Loops.{take_more}
 
 -- ---- a value put among values
@@ -124,15 +126,21 @@ column_whole f sites column after e h = h ∙ ap (put_value 0) (e ∙ ap (λ z. 
 
 -- ---- the columns of registers
 
+pub register_reads : (test : LitmusTest) (registers : List RegisterOf) (i : ℕ) (d : RegisterOf) → i < length registers
+    → HoldReads test (map register_seen registers) → HoldsRead test (register_seen (get_or registers i d))
+register_reads test [] i d l h = absurd (omega arith)
+register_reads test (r ∷ rs) zero d l h = h.0
+register_reads test (r ∷ rs) (suc i) d l h = register_reads test rs i d (omega arith) h.1
+
 pub columns_more : {R C : Type 0} (test : LitmusTest) (seen : R → Register) (items : C → List ℕ) (registers : List R)
-    (i : ℕ) (register : R) (columns after : List C) (column : C) → i < length registers
-    → register ≡ get_or registers i register
+    (i : ℕ) (d : R) (columns after : List C) (column : C) → i < length registers
     → map items columns ≡ columns_of_values test (map seen (take i registers))
-    → items column ≡ risen (values_stored test (seen register)) → after ≡ columns ++ column ∷ []
+    → items column ≡ risen (values_stored test (seen (get_or registers i d))) → after ≡ columns ++ column ∷ []
     → map items after ≡ columns_of_values test (map seen (take (i + 1) registers))
-columns_more test seen items registers i register columns after column l r e h p =
+columns_more test seen items registers i d columns after column l e h p =
+    let register = get_or registers i d in
     let f : Register → List ℕ = λ z. risen (values_stored test z) in
     ap (map items) p ∙ map-append items columns (column ∷ []) ∙ (λ j. e j ++ h j ∷ [])
-    ∙ sym (ap (λ z. map f (map seen z)) (take_more registers i register register l r)
+    ∙ sym (ap (λ z. map f (map seen z)) (take_more registers i register d l refl)
     ∙ ap (map f) (map-append seen (take i registers) (register ∷ []))
     ∙ map-append f (map seen (take i registers)) (seen register ∷ []))

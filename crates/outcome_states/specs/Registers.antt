@@ -19,9 +19,12 @@ use Rattle.outcome_states.specs.declared.registers.Refused.TheVariants.{Unread}
 abbrev pub register_of : ℕ → Reg → Register
 register_of t reg = record { thread = t; reg = reg }
 
--- the registers of thread t, in order
+-- the registers of a thread, in order
+abbrev pub all_registers : List Reg
+all_registers = Eax ∷ Ebx ∷ Ecx ∷ Edx ∷ Esi ∷ Edi ∷ []
+
 abbrev pub registers_of_thread : ℕ → List Register
-registers_of_thread t = map (register_of t) (Eax ∷ Ebx ∷ Ecx ∷ Edx ∷ Esi ∷ Edi ∷ [])
+registers_of_thread t = map (register_of t) all_registers
 
 -- whether an atom of the condition names the register
 abbrev pub is_named : LitmusTest → Register → Bool

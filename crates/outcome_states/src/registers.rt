@@ -84,7 +84,8 @@ pub(crate) fn first_unread(test: &Test) -> Option<Refused>
     ensures { result ≡ first_unread test.now }
 {
     let _threads = test.threads();
-    for (index, atom) in test.atoms().iter().enumerate() {
+    let atoms = test.atoms();
+    for (index, atom) in atoms.iter().enumerate() {
         if let Some(kind) = unread_kind(test, *atom) {
             let atom = index as u32 + 1;
             return Some(Refused::Unread { atom, kind });
