@@ -1,5 +1,5 @@
 -- Which rows satisfy what the condition asks for, and how many.
-use Rattle.std.proofs.Common.{◌≡◌, ◌↔◌, ℕ, zero, suc, ◌+◌, ◌<◌, ◌≤◌, ◌⊎◌, Bool, true, false, not, cond, All, None, Option, Some, List, [], ◌∷◌, filter, length, map, refl, sym, ap, ◌∙◌, subst, inl, inr, arith, eq-eqb}
+use Rattle.std.proofs.Common.{◌≡◌, ◌↔◌, ℕ, zero, suc, ◌+◌, ◌-◌, ◌<◌, ◌≤◌, ◌⊎◌, Bool, true, false, not, cond, All, None, Option, Some, List, [], ◌∷◌, filter, length, map, refl, sym, ap, ◌∙◌, subst, inl, inr, arith, eq-eqb}
 use Rattle.std.proofs.lemmas.Bool.{and_from, and_parts, eqb-true}
 use Rattle.std.proofs.lemmas.List.Elements.{All-from_recursion, recursion_from_All}
 use Rattle.std.proofs.lemmas.List.Sums.{length-filter}
@@ -42,6 +42,9 @@ in_range a zero c h = absurd h
 in_range a (suc n) c (inl e) = omega arith
 in_range a (suc n) c (inr h) = let k = in_range (a + 1) n c h in omega arith
 
+in_first : (n c : ℕ) → In c (range_with_len 0 n) → c < n
+in_first n c h = let k = in_range 0 n c h in omega arith
+
 satisfies_from : (test : LitmusTest) (c : ℕ) (registers : List Register) (values : List ℕ)
     → list_all (holds_in registers values) (conjunction_of test.ends test.atoms c) ≡ true
     → Satisfies test c registers values
@@ -69,7 +72,7 @@ counted_rows_satisfy_lem test registers values = (
       let m = map_in (conjunction_of test.ends test.atoms) range f.here (among_in parts f.here f.among) in
       let P : List Atom → Type 0 = λ l. list_all (holds_in registers values) l ≡ true in (
         m.0,
-        in_range 0 (length test.ends) m.0 m.1,
+        in_first (length test.ends) m.0 m.1,
         satisfies_from test m.0 registers values (subst P m.2 f.passes),
       ),
   λ s.
@@ -128,11 +131,22 @@ counted_is_allowed_lem test rows is none all =
           ((counted_rows_satisfy_lem test registers r.0).1 (a.0, a.1, r.2)),
     )
 
-counted_step : (b : Bool) (m n k : ℕ) → m + n ≡ k → (cond b 1 0 + m) + (cond (not b) 1 0 + n) ≡ suc k
-counted_step true m n k e = omega arith
-counted_step false m n k e = omega arith
+kept_step : {X : Type 0} (x : X) (fs gs : List X) (k : ℕ) (b : Bool) → length fs + length gs ≡ k
+    → length (cond b (x ∷ fs) fs) + length (cond (not b) (x ∷ gs) gs) ≡ suc k
+kept_step x fs gs k true e = omega arith
+kept_step x fs gs k false e = omega arith
 
-pub counted_all : {X : Type 0} (p : X → Bool) (xs : List X) → count_by p xs + count_by (λ x. not (p x)) xs ≡ length xs
-counted_all p [] = refl
-counted_all p (x ∷ xs) =
-    counted_step (p x) (count_by p xs) (count_by (λ y. not (p y)) xs) (length xs) (counted_all p xs)
+kept_all : {X : Type 0} (p : X → Bool) (xs : List X)
+    → length (filter p xs) + length (filter (λ x. not (p x)) xs) ≡ length xs
+kept_all p [] = refl
+kept_all p (x ∷ xs) =
+    kept_step x (filter p xs) (filter (λ y. not (p y)) xs) (length xs) (p x) (kept_all p xs)
+
+-- all that do not pass are those that are left
+pub counted_rest : {X : Type 0} (p : X → Bool) (xs : List X) (n k : ℕ) → n ≡ length xs → k ≡ count_by p xs
+    → n - k ≡ count_by (λ x. not (p x)) xs
+counted_rest p xs n k e h =
+    let a = kept_all p xs in
+    let b = length-filter p xs in
+    let c = length-filter (λ x. not (p x)) xs in
+    omega arith

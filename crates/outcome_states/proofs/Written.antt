@@ -1,28 +1,23 @@
 -- Loops over registers, atoms and rows, a step at a time.
-use Rattle.std.proofs.Common.{◌≡◌, ℕ, zero, suc, ◌+◌, ◌<◌, ◌≤◌, ◌==◌, ◌||◌, Bool, true, false, cond, Option, None, Some, List, [], ◌∷◌, ◌++◌, drop, filter, get_or, length, map, take, refl, sym, ap, ◌∙◌, subst, arith, append-nil, append_assoc}
+use Rattle.std.proofs.Common.{◌≡◌, ℕ, zero, suc, ◌+◌, ◌<◌, ◌≤◌, ◌==◌, ◌||◌, Bool, true, false, cond, Option, None, Some, List, [], ◌∷◌, ◌++◌, drop, filter, get_or, length, map, take, refl, sym, ap, ◌∙◌, subst, arith, append-nil, append_assoc, zero-add}
 use Rattle.std.proofs.Math.Seq.{drop-cons}
 use Rattle.std.proofs.Math.ListN.{drop_of_length-le}
 use Rattle.std.proofs.lemmas.Grind.{flat_map-append}
 use Rattle.std.proofs.lemmas.List.{map-append, take_all}
 use Rattle.std.proofs.lemmas.List.Elements.{filter-append}
 use Rattle.std.proofs.lemmas.List.FromFn.{map-range_with_len_more}
+use Rattle.std.proofs.lemmas.List.Sums.{sum_by-append}
 use Rattle.std.specs.List.{count_by, flat_map, list_any, range_with_len}
 use Rattle.perp_base.proofs.Lists.{any_map, range_append}
 use Rattle.choice_search.proofs.Finds.{any_push}
-use Rattle.x86_subset.specs.Test.{LitmusTest}
 use Rattle.x86_subset.specs.declared.instr.Reg.{Reg}
-use Rattle.x86_subset.specs.declared.test.Atom.{Atom}
-use Rattle.profile_check.specs.declared.kind.ProfileKind.{ProfileKind}
 use Rattle.decision.proofs.Hits.{any_range}
 use Rattle.outcome_rows.specs.Conditions.{is_register, value_in}
 use Rattle.outcome_rows.specs.Rows.{Register}
 use Rattle.outcome_rows.proofs.Loops.{take_more}
 use Rattle.row_decision.specs.Fronts.{register_seen}
 use Rattle.row_decision.specs.declared.front.Register.{Register as RegisterOf}
-use Rattle.outcome_states.specs.Registers.{register_of, registers_of_thread, unread_by, unread_from, unread_kind}
-use Rattle.outcome_states.specs.Text.{before_cell, cell_text, cells_from, state_line}
-use Rattle.outcome_states.specs.declared.registers.Refused.{Refused}
-use Rattle.outcome_states.specs.declared.registers.Refused.TheVariants.{Unread}
+use Rattle.outcome_states.specs.Registers.{register_of, registers_of_thread}
 
 -- ---- registers
 
@@ -62,37 +57,7 @@ threads_step p t before after h e =
     ∙ ap (filter p) (sym (ap (flat_map registers_of_thread) (range_append 0 t 1)
     ∙ flat_map-append registers_of_thread (range_with_len 0 t) (range_with_len (0 + t) 1)
     ∙ ap (λ z. flat_map registers_of_thread (range_with_len 0 t) ++ z)
-    (append-nil (registers_of_thread (0 + t)) ∙ ap registers_of_thread (omega arith))))
-
--- ---- atoms whose registers hold no read
-
-pub unread_at : (test : LitmusTest) (atoms : List Atom) (i : ℕ) (d : Atom) → i < length atoms
-    → unread_from test (i + 1) (drop i atoms)
-    ≡ unread_by (unread_kind test (get_or atoms i d)) (i + 1) (unread_from test (i + 1 + 1) (drop (i + 1) atoms))
-unread_at test atoms i d l =
-    ap (unread_from test (i + 1)) (drop-cons atoms i d l)
-    ∙ ap (λ z. unread_by (unread_kind test (get_or atoms i d)) (i + 1) (unread_from test (i + 1 + 1) (drop z atoms)))
-    (omega arith)
-
-pub unread_found : (test : LitmusTest) (atoms : List Atom) (i : ℕ) (d : Atom) (kind : ProfileKind) → i < length atoms
-    → unread_from test (i + 1) (drop i atoms) ≡ unread_from test 1 atoms
-    → unread_kind test (get_or atoms i d) ≡ Some kind
-    → Some (Unread (i + 1) kind) ≡ unread_from test 1 atoms
-unread_found test atoms i d kind l h e =
-    sym (ap (λ z. unread_by z (i + 1) (unread_from test (i + 1 + 1) (drop (i + 1) atoms))) e)
-    ∙ sym (unread_at test atoms i d l) ∙ h
-
-pub unread_more : (test : LitmusTest) (atoms : List Atom) (i : ℕ) (d : Atom) → i < length atoms
-    → unread_from test (i + 1) (drop i atoms) ≡ unread_from test 1 atoms
-    → unread_kind test (get_or atoms i d) ≡ None
-    → unread_from test (i + 1 + 1) (drop (i + 1) atoms) ≡ unread_from test 1 atoms
-unread_more test atoms i d l h e =
-    sym (unread_at test atoms i d l
-    ∙ ap (λ z. unread_by z (i + 1) (unread_from test (i + 1 + 1) (drop (i + 1) atoms))) e) ∙ h
-
-pub unread_end : (test : LitmusTest) (atoms : List Atom) (i : ℕ) → length atoms ≤ i
-    → unread_from test (i + 1) (drop i atoms) ≡ unread_from test 1 atoms → None ≡ unread_from test 1 atoms
-unread_end test atoms i l h = sym (ap (unread_from test (i + 1)) (drop_of_length-le atoms l)) ∙ h
+    (append-nil (registers_of_thread (0 + t)) ∙ ap registers_of_thread (zero-add t))))
 
 -- ---- the value of a register in a row
 
@@ -106,9 +71,10 @@ pub value_at : (registers : List RegisterOf) (row : List ℕ) (k : ℕ) (d : Reg
     ≡ cond (is_register t reg (register_seen (get_or registers k d))) (Some (get_or row k e))
     (value_in (map register_seen (drop (k + 1) registers)) (drop (k + 1) row) t reg)
 value_at registers row k d e t reg l m =
+    let n : suc k ≡ k + 1 = omega arith in
     (λ i. value_in (map register_seen (drop-cons registers k d l i)) (drop-cons row k e m i) t reg)
     ∙ ap (λ z. cond (is_register t reg (register_seen (get_or registers k d))) (Some (get_or row k e))
-    (value_in (map register_seen (drop z registers)) (drop z row) t reg)) (omega arith)
+    (value_in (map register_seen (drop z registers)) (drop z row) t reg)) n
 
 pub value_short : (registers : List RegisterOf) (row : List ℕ) (k : ℕ) (t : ℕ) (reg : Reg) (o : Option ℕ)
     → length row ≤ k → value_in (map register_seen (drop k registers)) (drop k row) t reg ≡ o → None ≡ o
@@ -157,8 +123,8 @@ one_met p f n c l h =
 
 counted_push : {X : Type 0} (p : X → Bool) (xs : List X) (x : X)
     → count_by p (xs ++ x ∷ []) ≡ count_by p xs + cond (p x) 1 0
-counted_push p [] x = omega arith
-counted_push p (y ∷ xs) x = let k = counted_push p xs x in omega arith
+counted_push p xs x =
+    sum_by-append (λ y. cond (p y) 1 0) xs (x ∷ []) ∙ ap (λ z. count_by p xs + z) (zero-add (cond (p x) 1 0))
 
 pub counted_more : {V : Type 0} (items : V → List ℕ) (p : List ℕ → Bool) (rows : List V) (i : ℕ) (d : V)
     (row : List ℕ) (before after : ℕ) (b : Bool) → i < length rows → row ≡ items (get_or rows i d)
@@ -183,34 +149,10 @@ lines_more items f rows i d row old before after l r h e =
     ∙ flat_map-append f (map items (take i rows)) (x ∷ [])
     ∙ ap (λ z. first ++ z) (append-nil (f x))))
 
--- ---- cells
+-- ---- the whole text
 
-pub cells_at : (registers : List RegisterOf) (row : List ℕ) (k : ℕ) (d : RegisterOf) (e : ℕ) → k < length registers
-    → k < length row
-    → cells_from k (map register_seen (drop k registers)) (drop k row)
-    ≡ before_cell k ++ (cell_text (register_seen (get_or registers k d)) (get_or row k e)
-    ++ cells_from (k + 1) (map register_seen (drop (k + 1) registers)) (drop (k + 1) row))
-cells_at registers row k d e l m =
-    (λ i. cells_from k (map register_seen (drop-cons registers k d l i)) (drop-cons row k e m i))
-    ∙ ap (λ z. before_cell k ++ (cell_text (register_seen (get_or registers k d)) (get_or row k e)
-    ++ cells_from (k + 1) (map register_seen (drop z registers)) (drop z row))) (omega arith)
-
-pub cells_more : (registers : List RegisterOf) (row : List ℕ) (k : ℕ) (d : RegisterOf) (e : ℕ)
-    (before spaced after whole : List ℕ) → k < length registers → k < length row
-    → before ++ cells_from k (map register_seen (drop k registers)) (drop k row) ≡ whole
-    → spaced ≡ before ++ before_cell k
-    → after ≡ spaced ++ cell_text (register_seen (get_or registers k d)) (get_or row k e)
-    → after ++ cells_from (k + 1) (map register_seen (drop (k + 1) registers)) (drop (k + 1) row) ≡ whole
-cells_more registers row k d e before spaced after whole l m h s a =
-    let cell = cell_text (register_seen (get_or registers k d)) (get_or row k e) in
-    let rest = cells_from (k + 1) (map register_seen (drop (k + 1) registers)) (drop (k + 1) row) in
-    ap (λ z. z ++ rest) (a ∙ ap (λ z. z ++ cell) s) ∙ append_assoc (before ++ before_cell k) cell rest
-    ∙ append_assoc before (before_cell k) (cell ++ rest)
-    ∙ ap (λ z. before ++ z) (sym (cells_at registers row k d e l m)) ∙ h
-
-pub cells_end : (registers : List RegisterOf) (row : List ℕ) (k : ℕ) (before whole : List ℕ) → length registers ≤ k
-    → before ++ cells_from k (map register_seen (drop k registers)) (drop k row) ≡ whole → before ≡ whole
-cells_end registers row k before whole l h =
-    sym (append-nil before)
-    ∙ ap (λ z. before ++ z) (sym (ap (λ z. cells_from k (map register_seen z) (drop k row)) (drop_of_length-le registers l)))
-    ∙ h
+pub joined : (e a b c d h n f o : List ℕ) → e ≡ [] → a ≡ e ++ h → b ≡ a ++ n → c ≡ b ++ f → d ≡ c ++ o
+    → d ≡ h ++ (n ++ (f ++ o))
+joined e a b c d h n f o pe pa pb pc pd =
+    let whole : c ≡ (h ++ n) ++ f = pc ∙ ap (λ z. z ++ f) (pb ∙ ap (λ z. z ++ n) (pa ∙ ap (λ z. z ++ h) pe)) in
+    pd ∙ ap (λ z. z ++ o) whole ∙ append_assoc (h ++ n) f o ∙ append_assoc h n (f ++ o)

@@ -1,5 +1,6 @@
 -- The whole answer: the text of all states of a test, or why they are not listed. This project's own.
 use Rattle.std.specs.Prelude.{◌≡◌, ℕ, None, Some, Result, Ok, Err, List, String, string_bytes}
+use Rattle.std.specs.Global.{Global}
 use Rattle.x86_subset.specs.Test.{LitmusTest}
 use Rattle.outcome_states.specs.Registers.{first_unread, registers_of}
 use Rattle.outcome_states.specs.States.{AreFewStates, HasManyStates, TakesAllSteps}
@@ -23,6 +24,6 @@ RefusesOutcomes test States = (first_unread test ≡ None) × HasManyStates test
 RefusesOutcomes test Steps =
     (first_unread test ≡ None) × ((values : List ℕ) × TakesAllSteps test (registers_of test) values)
 
-abbrev pub IsOutcomes : LitmusTest → Result String Refused → Type 0
+abbrev pub IsOutcomes : LitmusTest → Result (String Global) Refused → Type 0
 IsOutcomes test (Ok text) = IsOutcomesText test (string_bytes text)
 IsOutcomes test (Err refused) = RefusesOutcomes test refused

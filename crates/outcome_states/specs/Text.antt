@@ -52,7 +52,7 @@ state_line registers values = cells_from 0 registers values ++ newline
 -- ---- the last line
 
 -- whether each state satisfies what the condition asks for, or none does, by how many do and how many do not
-abbrev pub observation_word : ℕ → ℕ → List ℕ
+unfoldable pub observation_word : ℕ → ℕ → List ℕ
 observation_word met unmet =
     if met == 0 then codes "Never" else if unmet == 0 then codes "Always" else codes "Sometimes"
 

@@ -74,7 +74,8 @@ pub(crate) fn columns(
 {
     let mut columns = Vec::new(alloc);
     for register in registers {
-        columns.push(column_of(alloc, test, sequences, *register)?)?;
+        let column = column_of(alloc, test, sequences, *register)?;
+        columns.push(column)?;
     }
     Ok(columns)
 }

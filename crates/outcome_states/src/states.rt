@@ -53,6 +53,7 @@ pub(crate) fn states_of(
         (λ rows. AreFewStates test.now (map register_seen registers.now) (map (λ row. row.items) rows.items))
         (IsStopAt test.now (map register_seen registers.now))) }
 {
+    let _threads = test.threads();
     let sequences = Sequences::of(alloc, test)?;
     let columns = columns(alloc, test, &sequences, registers)?;
     let tell = |row: &[u32]| tell_front(alloc, test, &sequences, registers, row);

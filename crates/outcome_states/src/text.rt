@@ -80,6 +80,7 @@ fn push_state(out: &mut String, registers: &[Register], row: &[u32]) -> Result<(
     Ok(())
 }
 
+#[tactic(auto, unfolding(crate::specs::Text::observation_word))]
 fn observation_word(met: usize, unmet: usize) -> &'static str
     ensures { result.now ≡ observation_word met unmet }
 {
