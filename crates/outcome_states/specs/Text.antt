@@ -11,6 +11,10 @@ use Rattle.x86_subset.specs.declared.test.Quantifier.TheVariants.{Exists, NotExi
 use Rattle.outcome_rows.specs.Rows.{Register}
 use Rattle.outcome_states.specs.Counting.{count_met, count_unmet}
 
+-- a title and the test's name
+unfoldable pub titled : List ℕ → List ℕ → List ℕ
+titled title name = title ++ name ++ codes " "
+
 -- ---- the first line
 
 abbrev pub quantifier_word : Quantifier → List ℕ
@@ -18,7 +22,7 @@ quantifier_word Exists = codes "Allowed"
 quantifier_word NotExists = codes "Forbidden"
 
 unfoldable pub head_line : List ℕ → Quantifier → List ℕ
-head_line name quantifier = codes "Test " ++ name ++ codes " " ++ quantifier_word quantifier ++ newline
+head_line name quantifier = titled (codes "Test ") name ++ quantifier_word quantifier ++ newline
 
 -- ---- a state
 
@@ -58,8 +62,8 @@ observation_word met unmet =
 
 unfoldable pub observation_line : List ℕ → ℕ → ℕ → List ℕ
 observation_line name met unmet =
-    codes "Observation " ++ name ++ codes " " ++ observation_word met unmet ++ codes " " ++ decimal met
-    ++ codes " " ++ decimal unmet ++ newline
+    titled (codes "Observation ") name ++ observation_word met unmet ++ codes " " ++ decimal met ++ codes " "
+    ++ decimal unmet ++ newline
 
 -- ---- the whole
 

@@ -56,6 +56,11 @@ pub(crate) fn states_of(
     let _threads = test.threads();
     let sequences = Sequences::of(alloc, test)?;
     let columns = columns(alloc, test, &sequences, registers)?;
-    let tell = |row: &[u32]| tell_front(alloc, test, &sequences, registers, row);
+    let sequences = &sequences;
+    let tell = |row: &[u32]|
+        requires same { AreOf test.now sequences.now }
+        requires reads { HoldReads test.now (map register_seen registers.now) }
+        ensures { IfOk result (IsTold test.entry.now (map register_seen registers.entry.now) row.now) }
+    { tell_front(alloc, test, sequences, registers, row) };
     list_rows(alloc, MOST_STATES, &columns, tell)
 }

@@ -3,7 +3,7 @@ ghost use Rattle.std.specs.Prelude.{◌≡◌, ◌++◌, All, IfOk, OnOk, codes,
 ghost use Rattle.std.specs.Str.{IsAscii};
 ghost use Rattle.row_decision.specs.Fronts.{register_seen};
 ghost use Rattle.report_text.specs.Words.{number_line};
-ghost use Rattle.outcome_states.specs.Text.{cell_text, head_line, observation_line, observation_word, outcomes_text, quantifier_word, register_name, state_line};
+ghost use Rattle.outcome_states.specs.Text.{cell_text, head_line, observation_line, observation_word, outcomes_text, quantifier_word, register_name, state_line, titled};
 
 use crate::counting::count_met;
 use perp_base::{Name, NoMemory};
@@ -12,6 +12,17 @@ use row_decision::Register;
 use std::alloc::Global;
 use std::fmt::Write;
 use x86_subset::{Quantifier, Reg, Test};
+
+#[tactic(auto, unfolding(crate::specs::Text::titled))]
+fn push_titled(out: &mut String, title: &str, name: &Name) -> Result<(), NoMemory>
+    requires { IsAscii name.now }
+    ensures { OnOk result (string_bytes out.new ≡ string_bytes out.old ++ titled title.now name.now) }
+{
+    out.push_str(title)?;
+    push_bytes(out, name.bytes())?;
+    out.push_str(" ")?;
+    Ok(())
+}
 
 fn quantifier_word(quantifier: Quantifier) -> &'static str
     ensures { result.now ≡ quantifier_word quantifier }
@@ -27,10 +38,9 @@ fn push_head(out: &mut String, name: &Name, quantifier: Quantifier) -> Result<()
     requires { IsAscii name.now }
     ensures { OnOk result (string_bytes out.new ≡ string_bytes out.old ++ head_line name.now quantifier) }
 {
-    out.push_str("Test ")?;
-    push_bytes(out, name.bytes())?;
+    push_titled(out, "Test ", name)?;
     let word = quantifier_word(quantifier);
-    write!(out, " {word}\n")?;
+    write!(out, "{word}\n")?;
     Ok(())
 }
 
@@ -98,10 +108,9 @@ fn push_observation(out: &mut String, name: &Name, met: usize, unmet: usize) -> 
     requires { IsAscii name.now }
     ensures { OnOk result (string_bytes out.new ≡ string_bytes out.old ++ observation_line name.now met unmet) }
 {
-    out.push_str("Observation ")?;
-    push_bytes(out, name.bytes())?;
+    push_titled(out, "Observation ", name)?;
     let word = observation_word(met, unmet);
-    write!(out, " {word} {met} {unmet}\n")?;
+    write!(out, "{word} {met} {unmet}\n")?;
     Ok(())
 }
 
