@@ -45,7 +45,7 @@ cell_split k register v rest t =
     (codes ";") rest t
   where
     split : (b d x n y w z rest t : List ℕ)
-        → (b ++ ((d ++ (x ++ (n ++ (y ++ (w ++ z))))) ++ rest)) ++ t
+        → (b ++ ((((((d ++ x) ++ n) ++ y) ++ w) ++ z) ++ rest)) ++ t
         ≡ (b ++ (d ++ (x ++ (n ++ y)))) ++ (w ++ (z ++ (rest ++ t)))
     split b d x n y w z rest t = simp append_assoc
 
