@@ -57,8 +57,10 @@ put_last v (w ∷ ws) below =
 
 -- ---- by the first place that is no less
 
-abbrev is_no_less : ℕ → ℕ → Bool
-is_no_less v w = leb v w
+any_default : (xs : List ℕ) (i d : ℕ) → i < length xs → get_or xs i d ≡ get_or xs i 0
+any_default [] i d l = absurd (omega arith)
+any_default (x ∷ xs) zero d l = refl
+any_default (x ∷ xs) (suc i) d l = any_default xs i d (omega arith)
 
 not_some : (b : Bool) (k : ℕ) → cond b (Some k) None ≡ None → b ≡ false
 not_some true k e = cc
@@ -78,11 +80,6 @@ put_found v xs k d e h =
     let p : ℕ → Bool = λ w. leb v w in
     let f = position-Some p xs k 0 e in
     put_there v xs k f.0 (λ j m. leb-false v (get_or xs j 0) (f.2 j m)) (sym h ∙ any_default xs k d f.0)
-  where
-    any_default : (ys : List ℕ) (i c : ℕ) → i < length ys → get_or ys i c ≡ get_or ys i 0
-    any_default [] i c l = absurd (omega arith)
-    any_default (y ∷ ys) zero c l = refl
-    any_default (y ∷ ys) (suc i) c l = any_default ys i c (omega arith)
 
 pub put_new : (v : ℕ) (xs : List ℕ) (k d : ℕ) → position (λ w. leb v w) xs ≡ Some k → (get_or xs k d ≡ v → ⊥)
     → put_value v xs ≡ insert xs k v
@@ -93,35 +90,8 @@ put_new v xs k d e h =
     let n : get_or xs k 0 ≡ v → ⊥ = (λ z. h (any_default xs k d f.0 ∙ z)) in
     put_at v xs k f.0 (λ j m. leb-false v (get_or xs j 0) (f.2 j m)) (less v (get_or xs k 0) l n)
   where
-    any_default : (ys : List ℕ) (i c : ℕ) → i < length ys → get_or ys i c ≡ get_or ys i 0
-    any_default [] i c l = absurd (omega arith)
-    any_default (y ∷ ys) zero c l = refl
-    any_default (y ∷ ys) (suc i) c l = any_default ys i c (omega arith)
-
     less : (a b : ℕ) → a ≤ b → (b ≡ a → ⊥) → a < b
     less a b l n = omega arith
-
--- ---- the values of a location's stores, from the last one on
-
-pub column_more : (f : Site → ℕ) (sites : List Site) (k : ℕ) (d : Site) (before after : List ℕ) → k < length sites
-    → before ≡ risen (map f (drop (k + 1) sites)) → after ≡ put_value (f (get_or sites k d)) before
-    → after ≡ risen (map f (drop k sites))
-column_more f sites k d before after l e h =
-    let n : k + 1 ≡ suc k = omega arith in
-    h ∙ ap (put_value (f (get_or sites k d))) (e ∙ ap (λ m. risen (map f (drop m sites))) n)
-    ∙ sym (ap (λ z. risen (map f z)) (drop-cons sites k d l))
-
-pub column_first : (f : Site → ℕ) (sites : List Site) → [] ≡ risen (map f (drop (length sites) sites))
-column_first f [] = refl
-column_first f (s ∷ sites) = column_first f sites
-
-pub column_whole : (f : Site → ℕ) (sites : List Site) (column after : List ℕ)
-    → column ≡ risen (map f (drop 0 sites)) → after ≡ put_value 0 column → after ≡ risen (0 ∷ map f sites)
-column_whole f sites column after e h = h ∙ ap (put_value 0) (e ∙ ap (λ z. risen (map f z)) (none sites))
-  where
-    none : (ys : List Site) → drop 0 ys ≡ ys
-    none [] = refl
-    none (y ∷ ys) = refl
 
 -- ---- the columns of registers
 

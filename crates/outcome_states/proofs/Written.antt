@@ -82,20 +82,6 @@ value_short registers row k t reg o l h =
     sym (ap (λ z. value_in (map register_seen (drop k registers)) z t reg) (drop_of_length-le row l)
     ∙ no_value (map register_seen (drop k registers)) t reg) ∙ h
 
-pub value_end : (registers : List RegisterOf) (row : List ℕ) (k : ℕ) (t : ℕ) (reg : Reg) (o : Option ℕ)
-    → length registers ≤ k → value_in (map register_seen (drop k registers)) (drop k row) t reg ≡ o → None ≡ o
-value_end registers row k t reg o l h =
-    sym (ap (λ z. value_in (map register_seen z) (drop k row) t reg) (drop_of_length-le registers l)) ∙ h
-
-pub value_found : (registers : List RegisterOf) (row : List ℕ) (k : ℕ) (d : RegisterOf) (e : ℕ) (t : ℕ) (reg : Reg)
-    (o : Option ℕ) → k < length registers → k < length row
-    → value_in (map register_seen (drop k registers)) (drop k row) t reg ≡ o
-    → is_register t reg (register_seen (get_or registers k d)) ≡ true → Some (get_or row k e) ≡ o
-value_found registers row k d e t reg o l m h is =
-    sym (value_at registers row k d e t reg l m
-    ∙ ap (λ z. cond z (Some (get_or row k e))
-    (value_in (map register_seen (drop (k + 1) registers)) (drop (k + 1) row) t reg)) is) ∙ h
-
 pub value_more : (registers : List RegisterOf) (row : List ℕ) (k : ℕ) (d : RegisterOf) (t : ℕ) (reg : Reg)
     (o : Option ℕ) → k < length registers → k < length row
     → value_in (map register_seen (drop k registers)) (drop k row) t reg ≡ o
@@ -135,19 +121,6 @@ counted_more items p rows i d row before after b l r h k e =
     ∙ sym (ap (λ z. count_by p (map items z)) (take_more rows i (get_or rows i d) d l refl)
     ∙ ap (count_by p) (map-append items (take i rows) (get_or rows i d ∷ []))
     ∙ counted_push p (map items (take i rows)) (items (get_or rows i d)))
-
-pub lines_more : {V : Type 0} (items : V → List ℕ) (f : List ℕ → List ℕ) (rows : List V) (i : ℕ) (d : V)
-    (row old before after : List ℕ) → i < length rows → row ≡ items (get_or rows i d)
-    → before ≡ old ++ flat_map f (map items (take i rows)) → after ≡ before ++ f row
-    → after ≡ old ++ flat_map f (map items (take (i + 1) rows))
-lines_more items f rows i d row old before after l r h e =
-    let first = flat_map f (map items (take i rows)) in
-    let x = items (get_or rows i d) in
-    e ∙ (λ j. h j ++ f (r j)) ∙ append_assoc old first (f x)
-    ∙ ap (λ z. old ++ z) (sym (ap (λ z. flat_map f (map items z)) (take_more rows i (get_or rows i d) d l refl)
-    ∙ ap (flat_map f) (map-append items (take i rows) (get_or rows i d ∷ []))
-    ∙ flat_map-append f (map items (take i rows)) (x ∷ [])
-    ∙ ap (λ z. first ++ z) (append-nil (f x))))
 
 -- ---- the whole text
 
