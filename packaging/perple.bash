@@ -47,11 +47,12 @@ _perple_tool() {
     local word=${COMP_WORDS[COMP_CWORD]} before=${COMP_WORDS[COMP_CWORD - 1]}
     COMPREPLY=()
     if [ "$COMP_CWORD" -eq 1 ]; then
-        COMPREPLY=($(compgen -W 'judge order witness verdict show faithful count skew' -- "$word"))
+        COMPREPLY=($(compgen -W 'judge order witness verdict show faithful count replay skew' -- "$word"))
         return
     fi
     case ${COMP_WORDS[1]} in
     count) _perple_numbers "$before" "$word" turns || _perple_options '--rate --buffer --seed --cut --order' "$word" ;;
+    replay) _perple_numbers "$before" "$word" || _perple_options '--rate --buffer --seed --order' "$word" ;;
     witness | skew) [ "$COMP_CWORD" -ne 2 ] || COMPREPLY=($(compgen -W '1 10 100 1000 10000 100000' -- "$word")) ;;
     esac
 }

@@ -20,7 +20,7 @@ def commands_of(program):
 
 
 class Commands:
-    """The commands of a program, each with the names of its values; and the options of `run`, `replay` and `count`."""
+    """The commands of a program, each with the names of its values; and the options of those that take some."""
 
     def __init__(self, program):
         text = advice.page("COMMANDS.md")
@@ -43,13 +43,15 @@ class Commands:
 
 
 def borrowed_in(about):
-    """For a command that takes options of `perple`: these, and `--order` with the word that it may have there."""
-    said = re.search(r"these options of `perple`[^:]*:([^.]*)", about)
-    if said is None:
-        return {}
-    command, word = re.search(r"`(\w+) N --order ([a-z]+)`", about[said.start():]).groups()
-    lent = commands_of("perple").options
-    return {command: {**{name: lent[name] for name in re.findall(r"`--(\w+) ", said[1])}, "order": Either(word, (0, GREATEST))}}
+    """For each command that takes options of `perple`: these; and `--order` with a word, where it may have one."""
+    borrowed = {}
+    for command, said in re.findall(r"`(\w+)` takes N and these options of `perple`[^:]*:([^.]*)", about):
+        lent = commands_of("perple").options_for("replay")
+        borrowed[command] = {name: lent[name] for name in re.findall(r"`--(\w+) ", said)}
+        word = re.search(r"`%s N --order ([a-z]+)`" % command, about)
+        if word:
+            borrowed[command]["order"] = Either(word[1], (0, GREATEST))
+    return borrowed
 
 
 def limits_in(text):

@@ -171,6 +171,11 @@ def check_order(test, n):
     for loc in range(len(test.locations)):
         if len({t for t, _, _ in test.stores(loc)}) > 1:
             raise litmus.Refused(13, "perple: location %d has several writers\n" % loc)
+    check_events(test, n)
+
+
+def check_events(test, n):
+    """What is refused before a run is told."""
     if 2 * n * sum(map(len, test.bodies)) > MOST_EVENTS:
         raise litmus.Refused(12, "perple: limit events %d\n" % MOST_EVENTS)
 

@@ -6,3 +6,4 @@ mod JobLemmas
 mod CommandLemmas
 mod Iterations
 mod Lined
+pub mod Replays

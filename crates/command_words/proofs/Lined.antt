@@ -9,11 +9,11 @@ use Rattle.command_words.specs.declared.job.Command.{Command}
 use Rattle.command_words.specs.declared.job.Command.TheVariants.{Run, Replay, Convert, Demo}
 use Rattle.perp_base.specs.declared.schedule.Schedule.{Schedule}
 use Rattle.perp_base.specs.declared.options.Options.{Options}
-use Rattle.command_words.specs.Job.{Asked, AskedCount}
+use Rattle.command_words.specs.Job.{Asked, AskedCount, AskedReplay, schedule_by}
 use Rattle.command_words.specs.declared.job.Count.{Count}
 use Rattle.command_words.specs.declared.job.Count.TheVariants.{Exhaustive}
-use Rattle.command_words.specs.Words.{Given, Text, command_of, convert_in, count_in, count_named, count_names, count_of, demo_in, given_by, given_in, is_among, is_given, is_hyphenated, is_once, is_option, job_in, job_of, name_in, number_of, number_within, options_of, or_else, order_of, replay_names, run_names, schedule_in, schedule_named, value_given, value_in, value_then, with_given}
-use Rattle.command_words.specs.Lines.{AsksFor, AsksForCount, CountsAreRead, Gives, LinesAreRead, LinesStandForOne, StandsFor, spelled, nothing, number, apart, joined, run, replay, convert, demo}
+use Rattle.command_words.specs.Words.{Given, Text, command_of, convert_in, count_in, count_named, count_names, count_of, demo_in, given_by, given_in, is_among, is_given, is_hyphenated, is_once, is_option, job_in, job_of, name_in, number_of, number_within, options_of, or_else, order_of, replay_names, replay_of, run_names, schedule_in, schedule_named, value_given, value_in, value_then, with_given}
+use Rattle.command_words.specs.Lines.{AsksFor, AsksForCount, CountsAreRead, Gives, IsJobOf, LinesAreRead, LinesStandForOne, StandsFor, spelled, nothing, number, apart, joined, run, replay, convert, demo}
 use Rattle.command_words.proofs.Iterations.{no_number}
 use Rattle.command_words.proofs.Rows.{same_text, text_is}
 
@@ -157,7 +157,7 @@ module _ (names : List Text) where
   sound (word ∷ rest) None gs e once = sound_word word rest gs (sound rest) e once
   sound (word ∷ rest) (Some name) gs e once = sound_value name word rest gs (sound rest) e once
 
-  gives : (words : List Text) (gs : List Given) → given_in names words ≡ Some gs → Gives names gs words
+  pub gives : (words : List Text) (gs : List Given) → given_in names words ≡ Some gs → Gives names gs words
   gives words gs e = option_and_then_some _ (given_by names None words) gs e (λ all is said. go all is said (is_once all) refl)
     where
       go : (all : List Given) → given_by names None words ≡ Some all
@@ -175,7 +175,7 @@ module _ (names : List Text) where
 
 -- ---- what stands in the words is read
 
-data IsOptionName : Text → Type 0 where
+pub data IsOptionName : Text → Type 0 where
   seed : IsOptionName (codes "seed")
   rate : IsOptionName (codes "rate")
   buffer : IsOptionName (codes "buffer")
@@ -316,7 +316,7 @@ read_or : {A : Type 0} (default a : A) (read : Text → Option A) (o : Option Te
     → or_else default read o ≡ Some a → read text ≡ Some a
 read_or default a read o text is e = subst (λ (p : Option Text). or_else default read p ≡ Some a) is e
 
-some_of : {A B P : Type 0} (f : A → B) (o : Option A) (b : B) → option_map f o ≡ Some b
+pub some_of : {A B P : Type 0} (f : A → B) (o : Option A) (b : B) → option_map f o ≡ Some b
     → ((a : A) → o ≡ Some a → f a ≡ b → P) → P
 some_of f None b e next = absurd (none-some b e)
 some_of {A} {B} f (Some a) b e next = next a refl (let h : f a ≡ b = cc in h)
@@ -326,13 +326,13 @@ abbrev IsPlainValue : (Text → Option Text) → Text → Type 0
 IsPlainValue value_of name = (text : Text) → value_of name ≡ Some text → is_hyphenated text ≡ false
 
 module _ (value_of : Text → Option Text) where
-  record RunValues (options : Options) : Type 0 where
-    n_is : option_and_then (number_within 1 100000) (value_of (codes "N")) ≡ Some options.iterations
-    seed_is : or_else 0 number_of (value_of (codes "seed")) ≡ Some options.seed
-    rate_is : or_else 64 (number_within 0 256) (value_of (codes "rate")) ≡ Some options.rate
-    buffer_is : or_else 8 (number_within 1 16) (value_of (codes "buffer")) ≡ Some options.buffer
+  pub record RunValues (options : Options) : Type 0 where
+    pub n_is : option_and_then (number_within 1 100000) (value_of (codes "N")) ≡ Some options.iterations
+    pub seed_is : or_else 0 number_of (value_of (codes "seed")) ≡ Some options.seed
+    pub rate_is : or_else 64 (number_within 0 256) (value_of (codes "rate")) ≡ Some options.rate
+    pub buffer_is : or_else 8 (number_within 1 16) (value_of (codes "buffer")) ≡ Some options.buffer
 
-  run_values : (options : Options) → options_of value_of ≡ Some options → RunValues options
+  pub run_values : (options : Options) → options_of value_of ≡ Some options → RunValues options
   run_values options e0 =
       option_and_then_some _ _ options e0 (λ n n_is e1.
       option_and_then_some _ _ options e1 (λ seed_value seed_is e2.
@@ -345,7 +345,7 @@ module _ (value_of : Text → Option Text) where
       })))))
 
   -- what is asked for has these options and pieces, and its order is plain
-  record Values : Type 0 where
+  pub record Values : Type 0 where
     options : Options
     run : RunValues options
     cut_value : ℕ
@@ -395,6 +395,38 @@ module _ (value_of : Text → Option Text) where
         count = plain;
       })))
 
+  pub replay_values : (job : AskedReplay) → replay_of value_of ≡ Some job → value_of (codes "count") ≡ None
+      → value_of (codes "cut") ≡ None → Values
+  replay_values job e0 no_way no_cut =
+      option_and_then_some _ _ job e0 (λ options options_are e1.
+      some_of _ _ job e1 (λ seed_value order_is e2. record {
+        options = options;
+        run = run_values options options_are;
+        cut_value = 4096;
+        cut_is = rw no_cut refl;
+        order = plain_order seed_value order_is;
+        count = λ text is. absurd (none-some text (sym no_way ∙ is));
+      }))
+
+  job_given : (options : Options) (way : Option ℕ) → options_of value_of ≡ Some options
+      → value_of (codes "count") ≡ None → value_of (codes "cut") ≡ None
+      → order_of (value_of (codes "order")) ≡ Some way
+      → job_of value_of ≡ Some (record { options = options; count = Exhaustive; cut = 4096; order = way })
+  job_given options way options_are no_way no_cut order_is = rw (options_are, no_way, no_cut, order_is) refl
+
+  -- the job of the same run
+  pub replay_job : (asked : AskedReplay) → replay_of value_of ≡ Some asked → value_of (codes "count") ≡ None
+      → value_of (codes "cut") ≡ None → (job : Asked) × (job_of value_of ≡ Some job) × IsJobOf asked job
+  replay_job asked e0 no_way no_cut =
+      option_and_then_some _ _ asked e0 (λ options options_are e1.
+      some_of _ _ asked e1 (λ seed_value order_is same.
+      let options_same : options ≡ asked.options = ap (λ (r : AskedReplay). r.options) same in
+      let schedule_same : schedule_by seed_value ≡ asked.schedule = ap (λ (r : AskedReplay). r.schedule) same in (
+        record { options = options; count = Exhaustive; cut = 4096; order = seed_value },
+        job_given options seed_value options_are no_way no_cut order_is,
+        record { options = options_same; schedule = schedule_same; count = refl; cut = refl },
+      )))
+
   plain_N : (text : Text) (o : Option Text) (n : ℕ) → o ≡ Some text
       → option_and_then (number_within 1 100000) o ≡ Some n → is_hyphenated text ≡ false
   plain_N text o n is e =
@@ -420,14 +452,14 @@ module _ (value_of : Text → Option Text) where
   plain_value v _ (inr order) text e = v.order text e
 
 -- what stands in the words is given, where the values are ones that are asked for
-given_is : (names : List Text) → ((name : Text) → is_among name names ≡ true → IsOptionName name)
+pub given_is : (names : List Text) → ((name : Text) → is_among name names ≡ true → IsOptionName name)
     → (words : List Text) (gs : List Given) → Gives names gs words → Values (value_given gs)
     → given_in names words ≡ Some gs
 given_is names known words gs gives v =
     let plain = plain_all names known gs words gives (plain_value (value_given gs) v) in
     rw (complete names known gs words gives plain, once names known gs words gives) refl
 
-job_read : (names : List Text) → ((name : Text) → is_among name names ≡ true → IsOptionName name)
+pub job_read : (names : List Text) → ((name : Text) → is_among name names ≡ true → IsOptionName name)
     → (words : List Text) (job : Asked) → AsksFor names words job → job_in names words ≡ Some job
 job_read names known words job a =
     ap (option_and_then (λ gs. job_of (value_given gs)))
@@ -449,7 +481,7 @@ other_name names name other none among =
     false_from_ne_true (bytes_eq other name) (λ e.
     true≢false (sym (subst (λ (t : Text). is_among t names ≡ true) (same_text other name e) among) ∙ none))
 
-known_to : (x : Text) (xs : List Text) → IsOptionName x
+pub known_to : (x : Text) (xs : List Text) → IsOptionName x
     → ((name : Text) → is_among name xs ≡ true → IsOptionName name)
     → (name : Text) → is_among name (x ∷ xs) ≡ true → IsOptionName name
 known_to x xs is more name among = elim (among_cases x xs name among) [
@@ -465,7 +497,7 @@ run_known =
     (known_to (codes "count") (codes "cut" ∷ []) count
     (known_to (codes "cut") [] cut (λ name among. absurd (true≢false (sym among)))))))
 
-replay_known : (name : Text) → is_among name replay_names ≡ true → IsOptionName name
+pub replay_known : (name : Text) → is_among name replay_names ≡ true → IsOptionName name
 replay_known = known_to (codes "order") run_names order run_known
 
 count_known : (name : Text) → is_among name count_names ≡ true → IsOptionName name
@@ -479,7 +511,7 @@ count_known =
 -- ---- the job of a count
 
 -- nothing is given to another name than `N` and those of the options
-not_given_to : (names : List Text) (name : Text) → is_among name names ≡ false → bytes_eq (codes "N") name ≡ false
+pub not_given_to : (names : List Text) (name : Text) → is_among name names ≡ false → bytes_eq (codes "N") name ≡ false
     → (gs : List Given) (words : List Text) → Gives names gs words → value_given gs name ≡ None
 not_given_to names name other number_other _ _ nothing = refl
 not_given_to names name other number_other _ _ (number word gs words new more) =

@@ -3,8 +3,9 @@
 use Rattle.std.specs.Prelude.{◌≡◌, ◌↔◌, ◌++◌, ℕ, true, false, List, [], ◌∷◌, Some, codes}
 use Rattle.command_words.specs.declared.job.Command.{Command}
 use Rattle.command_words.specs.declared.job.Command.TheVariants.{Run, Replay, Convert, Demo}
-use Rattle.command_words.specs.Job.{Asked, AskedCount}
-use Rattle.command_words.specs.Words.{Given, Text, command_of, count_in, count_names, count_of, is_among, is_given, job_of, number_of, replay_names, run_names, value_given}
+use Rattle.command_words.specs.declared.job.Count.TheVariants.{Exhaustive}
+use Rattle.command_words.specs.Job.{Asked, AskedCount, AskedReplay, schedule_by}
+use Rattle.command_words.specs.Words.{Given, Text, command_of, count_in, count_names, count_of, is_among, is_given, job_of, number_of, replay_in, replay_names, replay_of, run_names, schedule_names, value_given}
 
 -- the option of this name, in a word
 abbrev pub spelled : Text → Text
@@ -38,6 +39,12 @@ pub record AsksForCount (words : List Text) (job : AskedCount) : Type 0 where
   pub gives : Gives count_names gs words
   pub numbers : count_of (value_given gs) ≡ Some job
 
+-- the words ask for this replay of which nothing is counted, in the same way
+pub record AsksForReplay (words : List Text) (replay : AskedReplay) : Type 0 where
+  pub gs : List Given
+  pub gives : Gives schedule_names gs words
+  pub numbers : replay_of (value_given gs) ≡ Some replay
+
 -- `StandsFor words command`: the words are a line of this command
 pub data StandsFor : List Text → Command → Type 0 where
   run : (words : List Text) (job : Asked) → AsksFor run_names words job → StandsFor (codes "run" ∷ words) (Run job)
@@ -58,3 +65,25 @@ LinesStandForOne =
 -- law: words ask for a job of a count exactly where that is the one which is read from left to right
 abbrev pub CountsAreRead : Type 0
 CountsAreRead = (words : List Text) (job : AskedCount) → AsksForCount words job ↔ (count_in words ≡ Some job)
+
+-- law: and for a replay of which nothing is counted
+abbrev pub ReplaysAreRead : Type 0
+ReplaysAreRead =
+    (words : List Text) (replay : AskedReplay) → AsksForReplay words replay ↔ (replay_in words ≡ Some replay)
+
+-- a job of `replay` has the run of this replay, and its hits are counted as where nothing is said of that
+pub record IsJobOf (replay : AskedReplay) (job : Asked) : Type 0 where
+  pub options : job.options ≡ replay.options
+  pub schedule : schedule_by job.order ≡ replay.schedule
+  pub count : job.count ≡ Exhaustive
+  pub cut : job.cut ≡ 4096
+
+-- the words after `replay` are those of such a job
+pub record HasJobOf (replay : AskedReplay) (words : List Text) : Type 0 where
+  pub job : Asked
+  pub is : IsJobOf replay job
+  pub command : command_of (codes "replay" ∷ words) ≡ Some (Replay job)
+
+-- law: words that ask for a replay of which nothing is counted are words of `replay`, with the same run
+abbrev pub ReplaysAreOfJobs : Type 0
+ReplaysAreOfJobs = (words : List Text) (replay : AskedReplay) → replay_in words ≡ Some replay → HasJobOf replay words

@@ -11,7 +11,7 @@ use Rattle.command_words.specs.declared.job.Command.{Command}
 use Rattle.command_words.specs.declared.job.Command.TheVariants.{Run, Replay, Convert, Demo}
 use Rattle.command_words.specs.declared.job.Count.{Count}
 use Rattle.command_words.specs.declared.job.Count.TheVariants.{Exhaustive, Heuristic, Both}
-use Rattle.command_words.specs.Job.{Asked, AskedCount}
+use Rattle.command_words.specs.Job.{Asked, AskedCount, AskedReplay, schedule_by}
 use Rattle.perp_base.specs.declared.options.Options.{Options}
 use Rattle.perp_base.specs.declared.schedule.Schedule.{Schedule}
 use Rattle.perp_base.specs.declared.schedule.Schedule.TheVariants.{Turns, Seeded}
@@ -174,6 +174,14 @@ count_of value_of =
     (or_else 4096 (number_within 1 MOST_PIECES) (value_of (codes "cut"))))
     (options_of value_of)
 
+-- the replay of which nothing is counted, by the value of each name
+abbrev pub replay_of : (Text → Option Text) → Option AskedReplay
+replay_of value_of =
+    option_and_then (λ options.
+    option_map (λ order. record { options = options; schedule = schedule_by order })
+    (order_of (value_of (codes "order"))))
+    (options_of value_of)
+
 -- what the words give, where nothing is given twice
 abbrev pub given_in : List Text → List Text → Option (List Given)
 given_in names words = option_and_then (λ gs. if is_once gs then Some gs else None) (given_by names None words)
@@ -194,6 +202,13 @@ count_names = codes "order" ∷ codes "seed" ∷ codes "rate" ∷ codes "buffer"
 -- the job that the words after `count` name
 abbrev pub count_in : List Text → Option AskedCount
 count_in words = option_and_then (λ gs. count_of (value_given gs)) (given_in count_names words)
+
+abbrev pub schedule_names : List Text
+schedule_names = codes "order" ∷ codes "seed" ∷ codes "rate" ∷ codes "buffer" ∷ []
+
+-- the replay that the words after `replay` name, where nothing is counted
+abbrev pub replay_in : List Text → Option AskedReplay
+replay_in words = option_and_then (λ gs. replay_of (value_given gs)) (given_in schedule_names words)
 
 abbrev pub convert_in : List Text → Option Command
 convert_in [] = Some Convert

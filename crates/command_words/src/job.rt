@@ -1,4 +1,7 @@
 //! Jobs, and the commands that ask for them.
+ghost use Rattle.std.specs.Prelude.{◌≡◌};
+ghost use Rattle.command_words.specs.Job.{schedule_by};
+
 use perp_base::{Options, Schedule};
 use std::marker::Model;
 
@@ -69,6 +72,39 @@ impl Model for CountJob {
     ghost inverse = { λ a. record { options = a.options; cut = a.cut; order = a.order } };
 
     ghost invariant = { λ j. IsWithin j.options j.cut };
+}
+
+/// What a replay of which nothing is counted is asked for. Each of its numbers lies within its limits
+/// (`IsWithinLimits`).
+#[derive(Clone, Copy, Debug, PartialEq, Eq)]
+pub struct ReplayJob {
+    /// How the run is made: 1 to 100,000 iterations, a rate of 0 to 256, a buffer of 1 to 16.
+    pub options: Options,
+    /// Whose turn it is.
+    pub schedule: Schedule,
+}
+
+impl Model for ReplayJob {
+    ghost use Rattle.perp_base.specs.Options.{IsWithinLimits};
+    ghost use Rattle.command_words.specs.Job.{AskedReplay};
+
+    ghost Value = { AskedReplay };
+
+    ghost view = { λ j. record { options = j.options; schedule = j.schedule } };
+
+    ghost inverse = { λ a. record { options = a.options; schedule = a.schedule } };
+
+    ghost invariant = { λ j. IsWithinLimits j.options };
+}
+
+/// The schedule of a replay: the one of this seed, or turns where no seed is given.
+pub fn schedule_for(order: Option<u64>) -> Schedule
+    ensures { result ≡ schedule_by order }
+{
+    match order {
+        None => Schedule::Turns,
+        Some(seed) => Schedule::Seeded(seed),
+    }
 }
 
 /// A command of the program.

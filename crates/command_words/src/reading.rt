@@ -5,9 +5,9 @@ ghost use Rattle.perp_base.specs.Options.{IsWithinLimits};
 ghost use Rattle.clap.specs.Words.{app_of, first_value, found_of};
 ghost use Rattle.clap.specs.Walk.{rule_of, texts};
 ghost use Rattle.command_words.specs.Clap.{HasNoNumber, IsRead, app_for, option_arg};
-ghost use Rattle.command_words.specs.Words.{command_of, convert_in, count_in, count_of, demo_in, is_among, is_stray, iterations_in, job_in, job_of, options_of};
+ghost use Rattle.command_words.specs.Words.{command_of, convert_in, count_in, count_of, demo_in, is_among, is_stray, iterations_in, job_in, job_of, options_of, replay_in, replay_of};
 
-use crate::job::{Command, Count, CountJob, Job};
+use crate::job::{Command, Count, CountJob, Job, ReplayJob, schedule_for};
 use crate::values::{count_or, number, number_or, order_in, read_within, schedule_in, within_or};
 use clap::error::ErrorKind;
 use clap::{Arg, ArgMatches};
@@ -70,6 +70,18 @@ fn count_from(matches: &ArgMatches) -> Option<CountJob>
     })
 }
 
+/// The replay of which nothing is counted, by the values that clap found.
+fn replay_from(matches: &ArgMatches) -> Option<ReplayJob>
+    ensures { result ≡ replay_of (first_value (found_of matches.now)) }
+{
+    let options = options_from(matches)?;
+    let order = order_in(matches.get_str("order"))?;
+    Some(ReplayJob {
+        options,
+        schedule: schedule_for(order),
+    })
+}
+
 /// The word begins with a hyphen and is no option, as `--`, `-` and `-h`.
 fn is_stray_word(word: &str) -> bool
     ensures { result ≡ is_stray word.now }
@@ -125,6 +137,9 @@ static REPLAY_NAMES: [&str; 6] = ["order", "seed", "rate", "buffer", "count", "c
 
 /// The options of `count`.
 static COUNT_NAMES: [&str; 5] = ["order", "seed", "rate", "buffer", "cut"];
+
+/// The options of a replay of which nothing is counted.
+static SCHEDULE_NAMES: [&str; 4] = ["order", "seed", "rate", "buffer"];
 
 /// Reads the words after the first by clap, as the values of `N` and of options of these names.
 fn read_values<'a>(
@@ -182,6 +197,20 @@ pub fn read_count(alloc: Global, words: &[String]) -> Result<CountJob, WordsErro
 {
     match read_values(alloc, words, &COUNT_NAMES) {
         Ok(matches) => count_from(&matches).ok_or(WordsError::Usage),
+        Err(error) => Err(error),
+    }
+}
+
+/// Reads the words after the first, the name of some command, as a replay of which nothing is counted, by clap. `Usage`
+/// comes exactly where they are none; that memory is refused may come instead of either answer.
+pub fn read_replay(alloc: Global, words: &[String]) -> Result<ReplayJob, WordsError>
+    requires { 0 < length words.now }
+    ensures ok { IfOk result (λ job. replay_in (drop 1 (map (λ w. string_bytes w) words.now)) ≡ Some job) }
+    ensures usage { result ≡ Err WordsError.Usage
+        → replay_in (drop 1 (map (λ w. string_bytes w) words.now)) ≡ None }
+{
+    match read_values(alloc, words, &SCHEDULE_NAMES) {
+        Ok(matches) => replay_from(&matches).ok_or(WordsError::Usage),
         Err(error) => Err(error),
     }
 }

@@ -1,9 +1,10 @@
 //! Words that are commands, and words that are none.
+ghost use Rattle.perp_base.specs.Options.{IsWithinLimits};
 ghost use Rattle.command_words.specs.Job.{IsWithin};
 
 use crate::{
-    Command, Count, CountJob, Job, Options, Schedule, WordsError, read_count, read_iterations,
-    read_words,
+    Command, Count, CountJob, Job, Options, ReplayJob, Schedule, WordsError, read_count,
+    read_iterations, read_replay, read_words,
 };
 use std::alloc::{AllocError, Global};
 use std::test::Fail;
@@ -227,6 +228,64 @@ fn reads_counts(rt: HostRuntime) -> Result<(), Fail> {
         "count -- 5",
     ] {
         assert_eq!(rt; count_job(alloc, line), Err(WordsError::Usage), "{line}");
+    }
+    Ok(())
+}
+
+/// The replay of which nothing is counted, after the name that begins a line.
+fn replay_job(alloc: Global, line: &str) -> Result<ReplayJob, WordsError> {
+    let Ok(words) = words_of(alloc, line) else {
+        return Err(WordsError::Memory);
+    };
+    if words.is_empty() {
+        return Err(WordsError::Usage);
+    }
+    read_replay(alloc, &words)
+}
+
+fn replaying(options: Options, schedule: Schedule) -> ReplayJob
+    requires { IsWithinLimits options }
+{
+    ReplayJob { options, schedule }
+}
+
+/// A name, and after it the number of iterations and the options of a replay, but none of how hits are counted.
+#[test]
+fn reads_replays(rt: HostRuntime) -> Result<(), Fail> {
+    let alloc = rt.alloc();
+    let most = Options {
+        iterations: 100000,
+        seed: 18446744073709551615,
+        rate: 256,
+        buffer: 16,
+    };
+    for (line, job) in [
+        ("replay 5", replaying(USUAL, Schedule::Turns)),
+        (
+            "replay --order=0 005",
+            replaying(USUAL, Schedule::Seeded(0)),
+        ),
+        (
+            "replay --buffer=16 --rate 256 --seed 18446744073709551615 100000 --order 18446744073709551615",
+            replaying(most, Schedule::Seeded(18446744073709551615)),
+        ),
+    ] {
+        assert_eq!(rt; replay_job(alloc, line), Ok(job), "{line}");
+    }
+    for line in [
+        "replay",
+        "replay 0",
+        "replay 100001",
+        "replay 5 --count exhaustive",
+        "replay 5 --cut 1",
+        "replay 5 --order turns",
+        "replay 5 --order 1 --order 1",
+        "replay 5 --rate 257",
+        "replay 5 --buffer 0",
+        "replay 5 6",
+        "replay -- 5",
+    ] {
+        assert_eq!(rt; replay_job(alloc, line), Err(WordsError::Usage), "{line}");
     }
     Ok(())
 }

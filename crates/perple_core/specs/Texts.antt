@@ -9,10 +9,9 @@ use Rattle.outcome_conv.specs.Hits.{hits_of}
 use Rattle.outcome_conv.specs.Picks.{picked_hits}
 use Rattle.perp_base.specs.declared.options.Options.{Options}
 use Rattle.perp_base.specs.declared.schedule.Schedule.{Schedule}
-use Rattle.perp_base.specs.declared.schedule.Schedule.TheVariants.{Turns, Seeded}
 use Rattle.command_words.specs.declared.job.Count.{Count}
 use Rattle.command_words.specs.declared.job.Count.TheVariants.{Exhaustive, Heuristic, Both}
-use Rattle.command_words.specs.Job.{Asked as Job}
+use Rattle.command_words.specs.Job.{Asked as Job, schedule_by}
 use Rattle.demo_text.specs.Demo.{demo_iterations_of}
 use Rattle.program_edge.specs.Quantified.{is_negated}
 use Rattle.report_text.specs.Words.{number_line}
@@ -71,10 +70,6 @@ unfoldable pub text_of : LitmusTest → Job → List Event → List ℕ
 text_of test job run = report_of (report_rows test job.options job.count true run)
 
 -- the schedule of `replay`
-abbrev pub schedule_by : Option ℕ → Schedule
-schedule_by None = Turns
-schedule_by (Some q) = Seeded q
-
 abbrev pub schedule_of : Job → Schedule
 schedule_of job = schedule_by job.order
 

@@ -7,13 +7,13 @@ ghost use Rattle.report_text.specs.Words.{number_line};
 ghost use Rattle.litmus_reader.specs.Answer.{Accepted};
 ghost use Rattle.perple_core.specs.Counting.{CanCountFrames, IsWanted};
 ghost use Rattle.perple_core.specs.Due.{due_for_reading, has_too_many_frames};
-ghost use Rattle.perple_core.specs.Texts.{conversion_text_of, demo_options_of, demo_report_of, report_rows, schedule_by, schedule_of, text_of};
+ghost use Rattle.perple_core.specs.Texts.{conversion_text_of, demo_options_of, demo_report_of, report_rows, schedule_of, text_of};
 ghost use Rattle.perple_core.specs.Top.{IsNamedInAscii, IsStillCommand, IsText, IsTextOfRun, IsTextOfSchedule, RanFor};
 ghost use Rattle.program_edge.specs.Field.{IsStill, SomeRunFits};
 
 use crate::counters::Counters;
 use crate::report_run::Wanted;
-use command_words::{Command, Count, Job};
+use command_words::{Command, Count, Job, schedule_for};
 use convert_rows::conversion;
 use demo_text::demo_iterations;
 use perp_base::NoMemory;
@@ -55,15 +55,6 @@ fn wanted_of_demo(k: u64, checked: &Checked) -> Wanted
         count: Count::Both,
         cut: 4096,
         show_hits: false,
-    }
-}
-
-fn schedule_for(order: Option<u64>) -> Schedule
-    ensures { result ≡ schedule_by order }
-{
-    match order {
-        None => Schedule::Turns,
-        Some(q) => Schedule::Seeded(q),
     }
 }
 

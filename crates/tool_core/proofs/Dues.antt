@@ -19,7 +19,7 @@ use Rattle.tool_core.specs.Due.{IsDue, IsDueForParts, IsDueForText, due_for_even
 use Rattle.tool_core.specs.Counting.{frame_count_of}
 use Rattle.tool_core.specs.Top.{AsksForFrames, AsksForKinds}
 use Rattle.tool_core.specs.declared.words.Command.{Command}
-use Rattle.tool_core.specs.declared.words.Command.TheVariants.{Judge, Order, Witness, Verdict, Show, Faithful, Skew, Count}
+use Rattle.tool_core.specs.declared.words.Command.TheVariants.{Judge, Order, Witness, Verdict, Show, Faithful, Skew, Count, Replay}
 use Rattle.tool_core.specs.declared.status.ToolStatus.{ToolStatus}
 use Rattle.tool_core.specs.declared.status.ToolStatus.TheVariants.{Core, NoSection, BadLine, TooLong, Events, SeveralWriters}
 
@@ -126,6 +126,8 @@ of_test (Count job) test parts =
     of_first (Count job) (option_map Core (due_for_atoms (profile_of test))) (due_for_frames test job.options)
     (of_profile (Count job) (profile_of test) tt)
     (of_frames (Count job) (nat_lt 4294967296 (frame_count_of test job.options)) tt)
+of_test (Replay job) test parts =
+    of_count (Replay job) (nat_lt 1000000 (most_events_of test job.options.iterations))
 
 of_shape : (command : Command) (shape : Shape) → IsOfText command (over_of shape)
 of_shape command shapes.Threads = tt

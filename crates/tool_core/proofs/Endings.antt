@@ -21,7 +21,7 @@ use Rattle.tool_core.specs.Counting.{RanAs, WasMade, run_options}
 use Rattle.tool_core.specs.Texts.{options_of}
 use Rattle.tool_core.specs.Top.{Answers, Ended, IsAfterReading, IsAnswer, IsField, IsStillCommand, IsText, RanFor, ReadsToEnd, RunFits, SuitsCommand, Told, WritesPart, WritesWhole, options_run}
 use Rattle.tool_core.specs.declared.words.Command.{Command}
-use Rattle.tool_core.specs.declared.words.Command.TheVariants.{Judge, Order, Witness, Verdict, Show, Faithful, Skew, Count}
+use Rattle.tool_core.specs.declared.words.Command.TheVariants.{Judge, Order, Witness, Verdict, Show, Faithful, Skew, Count, Replay}
 use Rattle.tool_core.specs.declared.status.ToolStatus.{ToolStatus}
 use Rattle.tool_core.specs.declared.status.ToolStatus.TheVariants.{Core, TooLong}
 use Rattle.tool_core.proofs.Dues.{IsOfInput, due_for_text, of_input, one_due, test_is_due}
@@ -97,6 +97,7 @@ still_text Show test parts done text still right = right.0
 still_text Faithful test parts done text still right = right.0
 still_text (Skew n) test parts done text still right = absurd (cc)
 still_text (Count job) test parts done text still right = still_made job.order test job.options done still right.made
+still_text (Replay job) test parts done text still right = right.0
 
 pub still_ran : (command : Command) (test : LitmusTest) (done : Closed) → IsStillCommand command → RanFor command test done
     → ⊥
@@ -145,6 +146,7 @@ fits_by (Skew n) options input text read done e reads a =
 fits_by (Count job) options input text read done e reads a =
     fits_made job.order job.options options a.test read done e
     (whole_test input a.parts a.test read a.accepts.parts_are a.accepts.reading reads) a.right.made
+fits_by (Replay job) options input text read done e reads a = absurd (cc)
 
 -- ---- what the clauses say
 

@@ -14,5 +14,7 @@ pub mod ColumnCounts
 pub mod RunWidths
 pub mod RunJudged
 pub mod Repeats
+pub mod Replayed
+pub mod ScheduleRuns
 pub mod Counted
 pub mod CountLaws

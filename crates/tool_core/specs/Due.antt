@@ -23,7 +23,7 @@ use Rattle.perp_base.specs.declared.options.Options.{Options}
 use Rattle.tool_core.specs.Counting.{frame_count_of}
 use Rattle.tool_core.specs.Words.{command_of}
 use Rattle.tool_core.specs.declared.words.Command.{Command}
-use Rattle.tool_core.specs.declared.words.Command.TheVariants.{Judge, Order, Witness, Verdict, Show, Faithful, Skew, Count}
+use Rattle.tool_core.specs.declared.words.Command.TheVariants.{Judge, Order, Witness, Verdict, Show, Faithful, Skew, Count, Replay}
 use Rattle.tool_core.specs.declared.status.ToolStatus.{ToolStatus}
 use Rattle.tool_core.specs.declared.status.ToolStatus.TheVariants.{Core, NoSection, BadLine, TooLong, Events, SeveralWriters}
 
@@ -39,6 +39,7 @@ heading_of Show = None
 heading_of Faithful = None
 heading_of (Skew n) = None
 heading_of (Count job) = None
+heading_of (Replay job) = None
 
 -- without a section the whole input is the litmus part
 abbrev pub all_litmus : List ℕ → Split
@@ -104,6 +105,7 @@ due_for_test Show test parts = option_map Core (due_for_atoms (profile_of test))
 due_for_test Faithful test parts = option_map Core (due_for_atoms (profile_of test))
 due_for_test (Skew n) test parts = None
 due_for_test (Count job) test parts = due_for_count test job.options
+due_for_test (Replay job) test parts = due_for_events test job.options.iterations
 
 -- ---- refusals of an input
 

@@ -10,8 +10,9 @@ use Rattle.profile_check.specs.Profile.{CheckedTest, IsChecked}
 use Rattle.outcome_conv.specs.Hits.{hits_of}
 use Rattle.litmus_outcomes.specs.Outcome.{IsAllowed}
 use Rattle.frames_within.specs.Loose.{IsFaithful}
-use Rattle.command_words.specs.Job.{AskedCount}
+use Rattle.command_words.specs.Job.{AskedCount, AskedReplay}
 use Rattle.tool_core.specs.Counting.{within_count_of}
+use Rattle.tool_core.specs.Replaying.{AreOfSchedule}
 use Rattle.litmus_reader.specs.Answer.{Accepted}
 use Rattle.litmus_reader.specs.Reading.{Reads}
 use Rattle.report_text.specs.Words.{number_line}
@@ -27,7 +28,7 @@ use Rattle.verdict.specs.declared.node.Node.{Node}
 use Rattle.tool_core.specs.Texts.{forbidden_text}
 use Rattle.tool_core.specs.Top.{IsAnswer, WritesWhole}
 use Rattle.tool_core.specs.Words.{command_of}
-use Rattle.tool_core.specs.declared.words.Command.TheVariants.{Count, Judge, Verdict}
+use Rattle.tool_core.specs.declared.words.Command.TheVariants.{Count, Judge, Replay, Verdict}
 use Rattle.tool_core.specs.declared.status.ToolStatus.TheVariants.{Core}
 
 -- for the command judge no refusal is due for the input, and this text answers it, and no other does
@@ -81,6 +82,24 @@ AreVerdictsOfOne a b = (a ≡ b) ⊎ (TellsCycles a × TellsCycles b)
 abbrev pub VerdictsAreRepeated : Type 0
 VerdictsAreRepeated = (words : List (List ℕ)) (input a b : List ℕ)
     → command_of words ≡ Some Verdict → CallOf words input a → CallOf words input b → AreVerdictsOfOne a b
+
+-- ---- replays
+
+-- The text tells the events of the run of the schedule, and after the litmus text it is judged legal.
+pub record IsLegalReplay (litmus : List ℕ) (test : LitmusTest) (job : AskedReplay) (text : List ℕ) : Type 0 where
+  pub events : List RunEvent
+  pub are : AreOfSchedule test job events
+  pub is : text ≡ run_text_of job.options.iterations events
+  pub judged : IsJudgedSo (litmus ++ text) (number_line (codes "Legal") (length events))
+
+-- law: what `replay` writes of a text is judged legal after that text
+abbrev pub ReplaysAreLegal : Type 0
+ReplaysAreLegal = (words : List (List ℕ)) (litmus text : List ℕ) (job : AskedReplay) (test : LitmusTest)
+    → command_of words ≡ Some (Replay job)
+    → Reads litmus (Accepted test)
+    → CanLead litmus
+    → CallOf words litmus text
+    → IsLegalReplay litmus test job text
 
 -- ---- counts
 

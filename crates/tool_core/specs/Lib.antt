@@ -6,6 +6,7 @@ pub mod Texts
 pub mod Showing
 pub mod Faithful
 pub mod Counting
+pub mod Replaying
 pub mod Counters
 pub mod Top
 pub mod Answering

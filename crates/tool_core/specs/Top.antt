@@ -21,8 +21,9 @@ use Rattle.tool_core.specs.Texts.{IsJudged, IsOrdered, IsSkewText, IsVerdictText
 use Rattle.tool_core.specs.Showing.{IsShowingText}
 use Rattle.tool_core.specs.Faithful.{IsFaithText}
 use Rattle.tool_core.specs.Counting.{IsCountText, RanAs, run_options}
+use Rattle.tool_core.specs.Replaying.{IsReplayText}
 use Rattle.tool_core.specs.declared.words.Command.{Command}
-use Rattle.tool_core.specs.declared.words.Command.TheVariants.{Judge, Order, Witness, Verdict, Show, Faithful, Skew, Count}
+use Rattle.tool_core.specs.declared.words.Command.TheVariants.{Judge, Order, Witness, Verdict, Show, Faithful, Skew, Count, Replay}
 use Rattle.tool_core.specs.declared.status.ToolStatus.{ToolStatus}
 use Rattle.tool_core.specs.declared.status.ToolStatus.TheVariants.{Core, NoSection, BadLine, TooLong, Events, SeveralWriters}
 
@@ -38,6 +39,7 @@ IsText Show test parts done text = IsStill done × IsShowingText test text
 IsText Faithful test parts done text = IsStill done × IsFaithText test text
 IsText (Skew n) test parts done text = IsSkewText test n done text
 IsText (Count job) test parts done text = IsCountText test job done text
+IsText (Replay job) test parts done text = IsStill done × IsReplayText test job text
 
 -- how a command runs the test on the field, where it does
 abbrev pub options_run : Command → Option Options
@@ -49,6 +51,7 @@ options_run Show = None
 options_run Faithful = None
 options_run (Skew n) = Some (options_of n)
 options_run (Count job) = run_options job.order job.options
+options_run (Replay job) = None
 
 -- the command makes no step on the field
 abbrev pub IsStillCommand : Command → Type 0
@@ -148,6 +151,7 @@ AsksForKinds Show = Unit {0}
 AsksForKinds Faithful = Unit {0}
 AsksForKinds (Skew n) = ⊥
 AsksForKinds (Count job) = Unit {0}
+AsksForKinds (Replay job) = ⊥
 
 -- the command that asks for the number of frames
 abbrev pub AsksForFrames : Command → Type 0
@@ -159,6 +163,7 @@ AsksForFrames Show = ⊥
 AsksForFrames Faithful = ⊥
 AsksForFrames (Skew n) = ⊥
 AsksForFrames (Count job) = Unit {0}
+AsksForFrames (Replay job) = ⊥
 
 -- That a test is outside the profile is answered for `verdict`, `show`, `faithful` and `count` alone, and the limit of
 -- frames for `count` alone.

@@ -1,9 +1,14 @@
 //! What the commands say of texts that are written for them.
-ghost use Rattle.tool_core.specs.Laws.{FaithfulCountsAreHits, JudgementsAreRepeated, SeenWithinIsAllowed, VerdictsAreRepeated, WrittenRunsAreLegal};
+ghost use Rattle.tool_core.specs.Laws.{FaithfulCountsAreHits, JudgementsAreRepeated, ReplaysAreLegal, SeenWithinIsAllowed, VerdictsAreRepeated, WrittenRunsAreLegal};
 
 /// A legal run of a test that is written after the test's text is called legal.
 pub fn written_runs_are_legal()
     ensures { WrittenRunsAreLegal }
+{}
+
+/// What `replay` writes of a text is called legal after that text.
+pub fn replays_are_legal()
+    ensures { ReplaysAreLegal }
 {}
 
 /// Two calls of `judge` with the same words on the same input, which both end with 0, write the same text.

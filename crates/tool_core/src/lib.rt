@@ -25,6 +25,7 @@ mod number_text;
 mod ordering;
 mod parts;
 mod reasons;
+mod replaying;
 mod request;
 mod running;
 mod showing;
@@ -39,7 +40,7 @@ mod writers;
 
 pub use answer::answer_text;
 pub use laws::{
-    faithful_counts_are_hits, judgements_are_repeated, seen_within_is_allowed,
+    faithful_counts_are_hits, judgements_are_repeated, replays_are_legal, seen_within_is_allowed,
     verdicts_are_repeated, written_runs_are_legal,
 };
 pub use perp_loop::{Gate, NoGate};

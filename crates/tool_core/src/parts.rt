@@ -38,6 +38,7 @@ pub fn parts_in<'a>(command: &Command, input: &'a [u8]) -> Option<Section<'a>>
         | Command::Show
         | Command::Faithful
         | Command::Skew(_)
-        | Command::Count(_) => Some(all_litmus(input)),
+        | Command::Count(_)
+        | Command::Replay(_) => Some(all_litmus(input)),
     }
 }

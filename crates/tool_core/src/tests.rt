@@ -7,6 +7,7 @@ ghost use Rattle.perp_base.specs.Causes.{HasCause};
 mod counts;
 mod faiths;
 mod meeting;
+mod replays;
 mod rows;
 mod shown;
 
@@ -14,6 +15,7 @@ use super::*;
 use counts::{COUNTS, FAILING_COUNTS, REFUSED, RUNS};
 use faiths::FAITHS;
 use perp_base::{Calls, Failed, MemSink, MemSource, Source};
+use replays::{LEGAL_REPLAYS, REFUSED_REPLAYS, REPLAYS};
 use rows::ROWS;
 use std::alloc::Global;
 use std::process::Abort;
@@ -259,6 +261,26 @@ fn counts_are_told(rt: HostRuntime) -> Result<(), Fail> {
     Ok(())
 }
 
+/// A replay leaves the field untouched, and after its text `judge` finds it legal.
+#[test]
+fn replays_are_told(rt: HostRuntime) -> Result<(), Fail> {
+    let alloc = rt.alloc();
+    for (line, text, section) in REPLAYS {
+        let input = text.as_bytes();
+        assert_answer(&rt, alloc, line, input, 0, section.as_bytes(), "")?;
+    }
+    for (line, text, legal) in LEGAL_REPLAYS {
+        let found = call(&rt, alloc, line, text.as_bytes(), NEVER)?;
+        let mut told = Vec::from_slice(alloc, text.as_bytes())?;
+        told.extend_from_slice(found.out.written())?;
+        assert_answer(&rt, alloc, "judge", &told, 0, legal.as_bytes(), "")?;
+    }
+    for (line, text, status, err) in REFUSED_REPLAYS {
+        assert_answer(&rt, alloc, line, text.as_bytes(), status, b"", err)?;
+    }
+    Ok(())
+}
+
 #[test]
 fn skews_are_told(rt: HostRuntime) -> Result<(), Fail> {
     let ran = call(&rt, rt.alloc(), "skew 3", OWN.as_bytes(), NEVER)?;
@@ -438,6 +460,7 @@ fn inputs_without_an_end_are_refused(rt: HostRuntime) -> Result<(), Fail> {
         "verdict",
         "skew 1",
         "count 1",
+        "replay 1",
     ] {
         let mut blanks = Blanks {
             calls: Calls::none(),

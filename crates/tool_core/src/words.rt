@@ -3,7 +3,7 @@ ghost use Rattle.std.specs.Prelude.{◌≡◌, ◌<◌, drop, length, IfOk, Matc
 ghost use Rattle.program_edge.specs.View.{bytes_of};
 ghost use Rattle.tool_core.specs.Words.{IsWithinItsLimits, alone, command_of};
 
-use command_words::{CountJob, WordsError, read_count, read_iterations};
+use command_words::{CountJob, ReplayJob, WordsError, read_count, read_iterations, read_replay};
 use std::alloc::Global;
 
 /// A command of the second program.
@@ -25,6 +25,8 @@ pub enum Command {
     Skew(u32),
     /// Run or replay the test, and count the frames within which its condition holds.
     Count(CountJob),
+    /// Tell the run of a schedule.
+    Replay(ReplayJob),
 }
 
 /// The command, where no word follows its name.
@@ -60,6 +62,7 @@ pub fn read_words(alloc: Global, words: &[String]) -> Result<Command, WordsError
         "faithful" => alone(words, Command::Faithful),
         "skew" => Ok(Command::Skew(read_iterations(alloc, words)?)),
         "count" => Ok(Command::Count(read_count(alloc, words)?)),
+        "replay" => Ok(Command::Replay(read_replay(alloc, words)?)),
         _ => Err(WordsError::Usage),
     }
 }

@@ -14,6 +14,7 @@ use crate::counting::count_on;
 use crate::faithful::faithful_on;
 use crate::judging::judge_section;
 use crate::ordering::order_section;
+use crate::replaying::replay_on;
 use crate::showing::show_on;
 use crate::skews::skew_run;
 use crate::status::ToolStatus;
@@ -62,5 +63,6 @@ pub fn work<R: Threads + Sync, G: Gate>(
         Command::Witness(n) => witness_run(rt, alloc, &test, *n, field, gate),
         Command::Count(job) => count_on(rt, alloc, job, test, field, gate),
         Command::Order => Answered::still(order_section(alloc, &test, section), field),
+        Command::Replay(job) => Answered::still(replay_on(alloc, &test, job), field),
     }
 }

@@ -8,9 +8,10 @@ unnamed : {X : Type 0} (f : X → List ℕ) (ws : List X) (d : X) (name : List �
     → (name ≡ codes "judge" → ⊥) → (name ≡ codes "order" → ⊥)
     → (name ≡ codes "witness" → ⊥) → (name ≡ codes "verdict" → ⊥) → (name ≡ codes "show" → ⊥)
     → (name ≡ codes "faithful" → ⊥)
-    → (name ≡ codes "skew" → ⊥) → (name ≡ codes "count" → ⊥) → command_of (map f ws) ≡ None
-unnamed f [] d name is not_judge not_order not_witness not_verdict not_show not_faithful not_skew not_count = refl
-unnamed f (w ∷ ws) d name is not_judge not_order not_witness not_verdict not_show not_faithful not_skew not_count =
+    → (name ≡ codes "skew" → ⊥) → (name ≡ codes "count" → ⊥) → (name ≡ codes "replay" → ⊥)
+    → command_of (map f ws) ≡ None
+unnamed f [] d name is not_judge not_order not_witness not_verdict not_show not_faithful not_skew not_count not_replay = refl
+unnamed f (w ∷ ws) d name is not_judge not_order not_witness not_verdict not_show not_faithful not_skew not_count not_replay =
     rw (
       differs (f w) name (codes "judge") is not_judge,
       differs (f w) name (codes "order") is not_order,
@@ -20,6 +21,7 @@ unnamed f (w ∷ ws) d name is not_judge not_order not_witness not_verdict not_s
       differs (f w) name (codes "faithful") is not_faithful,
       differs (f w) name (codes "skew") is not_skew,
       differs (f w) name (codes "count") is not_count,
+      differs (f w) name (codes "replay") is not_replay,
     ) refl
 
 pub returns-in_default-clause-usage : goal.returns-in_default-clause-usage
@@ -29,4 +31,4 @@ returns-in_default-clause-usage c = λ _.
     unnamed (λ w. string_bytes w) c.args.words.now c.index-words-0.result c.as_str.result.now first
     c.in_default.not-judge c.in_default.not-order
     c.in_default.not-witness c.in_default.not-verdict c.in_default.not-show c.in_default.not-faithful c.in_default.not-skew
-    c.in_default.not-count
+    c.in_default.not-count c.in_default.not-replay
