@@ -53,14 +53,14 @@ fn rows_and_limits(rt: HostRuntime) -> Result<(), Fail> {
     for test in &tests {
         let columns = columns(alloc, test)?;
         let rows = test.rows;
-        let possible = |front: &[u32]| Some(rows.iter().any(|row| begins(row, front)));
+        let possible = |front: &[u32]| Ok(Some(rows.iter().any(|row| begins(row, front))));
         let found = list_rows(alloc, 7, &columns, possible)?;
         let all = matches!(&found, Ok(found) if are_rows(found, rows));
         assert!(rt; all);
         let found = list_rows(alloc, 2, &columns, possible)?;
         let many = matches!(&found, Err(Stop::TooMany));
         assert!(rt; many);
-        let found = list_rows(alloc, 7, &columns, |_: &[u32]| None)?;
+        let found = list_rows(alloc, 7, &columns, |_: &[u32]| Ok(None))?;
         let gave_up = matches!(&found, Err(Stop::GaveUp));
         assert!(rt; gave_up);
     }

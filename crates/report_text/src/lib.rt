@@ -22,6 +22,7 @@ pub use line::{Line, refusal_text};
 pub use report_lines::{count_report, report};
 pub use rows::{CountReport, Report};
 pub use status::{Over, Status};
+pub use words::push_bytes;
 
 #[cfg(test)]
 mod tests;

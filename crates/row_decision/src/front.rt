@@ -60,7 +60,7 @@ fn place_of(test: &Test, register: Register) -> usize
 }
 
 /// The read that a register holds at the end.
-fn read_of(test: &Test, register: Register) -> Node
+pub fn read_of(test: &Test, register: Register) -> Node
     requires { HoldsRead test.now (register_seen register) }
     ensures { result ≡ read_of test.now (register_seen register) }
 {
@@ -70,7 +70,7 @@ fn read_of(test: &Test, register: Register) -> Node
 }
 
 /// The value of a store, as it stands in the text.
-fn value_of(test: &Test, store: Node) -> u32
+pub fn value_of(test: &Test, store: Node) -> u32
     ensures { result ≡ text_value test.now (Some store) }
 {
     match action(test, store) {

@@ -1,4 +1,4 @@
-use Rattle.std.proofs.Common.{◌≡◌, ℕ, ◌+◌, ◌<◌, ◌≤◌, ◌++◌, ◌∷◌, [], ◌∙◌, List, Bool, Some, Vec, Global, true, false, ap, arith, sym, get_or, length, map, vec_len}
+use Rattle.std.proofs.Common.{◌≡◌, ℕ, ◌+◌, ◌<◌, ◌≤◌, ◌++◌, ◌∷◌, [], ◌∙◌, List, Bool, Some, Vec, Global, true, false, ap, arith, sym, get_or, length, map, vec_len, Ok}
 use Rattle.std.specs.Fn.{FnReturnsAt}
 use Rattle.outcome_rows.proofs.Loops.{answer_at, few_more, front_ends, front_keeps, front_many, pushed}
 use Rattle.outcome_rows.proofs.rows.go_on_front.Goals as goal
@@ -14,10 +14,10 @@ returns-then-len-limit g c n p l a =
     let row : c.push.new.self.items ≡ front ++ v ∷ [] =
     c.in_ok-push.ensures.items ∙ ap (λ (z : List ℕ). z ++ v ∷ []) c.in_ok-row.ensures.items in
     let told : c.in-Some.possible ≡ p (front ++ v ∷ []) =
-    answer_at (λ row r. FnReturnsAt g.F.Fn c.args.decide.now row r) n p front v c.in-Some.possible l a (record {
+    answer_at (λ row r. FnReturnsAt g.F.Fn c.args.decide.now row (Ok r)) n p front v c.in-Some.possible l a (record {
       shown = c.deref.result;
       shows = c.deref.ensures.value ∙ row;
-      says = record { met = c.in-Some.ensures };
+      says = record { met = rw c.in-Some.is at c.in_ok-possible.ensures };
     }) in
     let old : List (Vec ℕ Global) = c.args.rows.now.items in
     let before : List (Vec ℕ Global) = c.loop-value.rows.items in
@@ -36,10 +36,10 @@ loop-value-preserved g c = (
       let row : c.push.new.self.items ≡ front ++ v ∷ [] =
       c.in_ok-push.ensures.items ∙ ap (λ (z : List ℕ). z ++ v ∷ []) c.in_ok-row.ensures.items in
       let told : c.in-Some.possible ≡ p (front ++ v ∷ []) =
-      answer_at (λ row r. FnReturnsAt g.F.Fn c.args.decide.now row r) n p front v c.in-Some.possible l a (record {
+      answer_at (λ row r. FnReturnsAt g.F.Fn c.args.decide.now row (Ok r)) n p front v c.in-Some.possible l a (record {
         shown = c.deref.result;
         shows = c.deref.ensures.value ∙ row;
-        says = record { met = c.in-Some.ensures };
+        says = record { met = rw c.in-Some.is at c.in_ok-possible.ensures };
       }) in
       let old : List (Vec ℕ Global) = c.args.rows.now.items in
       let before : List (Vec ℕ Global) = c.loop-value.rows.items in

@@ -1,4 +1,4 @@
-use Rattle.std.proofs.Common.{ℕ, List, Bool, Option, Vec, Global, length}
+use Rattle.std.proofs.Common.{ℕ, List, Bool, Option, Vec, Global, length, Ok}
 use Rattle.std.specs.Fn.{FnReturnsAt}
 use Rattle.outcome_rows.proofs.Limited.{fronts_each, gives_up, many_columns}
 use Rattle.outcome_rows.proofs.Loops.{columns_end, columns_keep, none_of, some_of, stop_more}
@@ -7,7 +7,7 @@ use Rattle.outcome_rows.proofs.rows.list_rows.Goals as goal
 pub returns-in-Some : goal.returns-in-Some
 returns-in-Some g c =
     let items : Vec ℕ Global → List ℕ = λ row. row.items in
-    let A : List ℕ → Option Bool → Type 0 = λ row r. FnReturnsAt g.F.Fn c.args.decide row r in
+    let A : List ℕ → Option Bool → Type 0 = λ row r. FnReturnsAt g.F.Fn c.args.decide row (Ok r) in
     stop_more _ _ _ _ c.in-Some.stop
     (λ many. many_columns items A c.args.limit c.args.columns.now c.loop-column.column-index c.column-item.result
     c.deref-in-loop-column.result.now c.loop-column.rows.items c.deref.result.now c.loop-column-test.true
@@ -34,7 +34,7 @@ loop-column-preserved g c =
 pub returns : goal.returns
 returns g c =
     let items : Vec ℕ Global → List ℕ = λ row. row.items in (
-      columns_end items (λ row r. FnReturnsAt g.F.Fn c.args.decide row r) c.args.columns.now c.loop-column.column-index
+      columns_end items (λ row r. FnReturnsAt g.F.Fn c.args.decide row (Ok r)) c.args.columns.now c.loop-column.column-index
           c.loop-column.rows.items c.loop-column-test.false c.loop-column.invariant.0,
       c.loop-column.invariant.1,
     )

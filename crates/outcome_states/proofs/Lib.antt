@@ -1,0 +1,5 @@
+pub mod Held
+pub mod Valued
+pub mod Counted
+pub mod Listed
+pub mod Written
