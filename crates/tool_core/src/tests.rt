@@ -252,8 +252,8 @@ fn outcomes_are_listed(rt: HostRuntime) -> Result<(), Fail> {
         assert_answer(&rt, alloc, "outcomes", input, 0, listed.as_bytes(), "")?;
     }
     for (line, text, after, status, err) in REFUSED_OUTCOMES {
-        let input = format!(in alloc; "{text}{after}")?;
-        assert_answer(&rt, alloc, line, input.as_bytes(), status, b"", err)?;
+        let input = with_section(alloc, text, after)?;
+        assert_answer(&rt, alloc, line, &input, status, b"", err)?;
     }
     Ok(())
 }
