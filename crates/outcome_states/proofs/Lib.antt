@@ -3,3 +3,4 @@ pub mod Valued
 pub mod Counted
 pub mod Listed
 pub mod Written
+pub mod Apart

@@ -91,6 +91,9 @@ pub match_more : {T E : Type 0} (P Q : T → Type 0) (R S : E → Type 0) (r : R
 match_more P Q R S (Ok x) f g h = f x h
 match_more P Q R S (Err e) f g h = g e h
 
+pub ok_of : {T E : Type 0} (r : Result T E) (x : T) (P : T → Type 0) (Q : E → Type 0) → r ≡ Ok x → MatchResult r P Q → P x
+ok_of r x P Q e h = let R : Result _ _ → Type 0 = λ z. MatchResult z P Q in subst R e h
+
 pub stop_at : (test : LitmusTest) (registers : List Register) (many gave_up : Type 0) (why : Stop)
     → (many → HasManyStates test registers)
     → (gave_up → (values : List ℕ) × TakesAllSteps test registers values)

@@ -1,6 +1,6 @@
 -- Laws: what the text says of the executions of a test. This project's own.
-use Rattle.std.specs.Prelude.{◌≡◌, ◌↔◌, ℕ, ◌<◌, true, None, Contains, List, length}
-use Rattle.std.specs.List.{AllZip}
+use Rattle.std.specs.Prelude.{◌≡◌, ◌↔◌, ℕ, ◌^◌, ◌<◌, true, None, Contains, List, length}
+use Rattle.std.specs.List.{AllByRecursion as Each, AllZip}
 use Rattle.x86_subset.specs.Shape.{IsTest}
 use Rattle.x86_subset.specs.Test.{LitmusTest}
 use Rattle.litmus_outcomes.specs.Machine.{Step}
@@ -11,7 +11,7 @@ use Rattle.outcome_rows.specs.Rows.{EndsWith, Register}
 use Rattle.outcome_states.specs.Counting.{count_met, is_met}
 use Rattle.outcome_states.specs.Outcomes.{IsOutcomesText}
 use Rattle.outcome_states.specs.Registers.{first_unread, registers_of}
-use Rattle.outcome_states.specs.Text.{outcomes_text}
+use Rattle.outcome_states.specs.Text.{outcomes_text, state_line}
 
 -- some execution of the test as it is written ends with these values of the registers
 abbrev pub SomeExecutionEnds : LitmusTest → List Register → List ℕ → Type 0
@@ -27,6 +27,17 @@ pub record ListsOutcomes (test : LitmusTest) (text : List ℕ) : Type 0 where
 -- law: a line of values stands in the text exactly where some execution of the test as it is written ends with them
 abbrev pub OutcomesAreListed : Type 0
 OutcomesAreListed = (test : LitmusTest) (text : List ℕ) → IsOutcomesText test text → ListsOutcomes test text
+
+-- law: lines tell states apart: values of 64 bits at most have the line of others only where they are the others
+abbrev pub LinesAreApart : Type 0
+LinesAreApart =
+    (registers : List Register) (values others : List ℕ)
+    → length values ≡ length registers
+    → length others ≡ length registers
+    → Each (λ v. v < 2 ^ 64) values
+    → Each (λ v. v < 2 ^ 64) others
+    → state_line registers values ≡ state_line registers others
+    → values ≡ others
 
 -- law: a test has one text, or none
 abbrev pub OneText : Type 0

@@ -60,10 +60,12 @@ unfoldable pub observation_word : ℕ → ℕ → List ℕ
 observation_word met unmet =
     if met == 0 then codes "Never" else if unmet == 0 then codes "Always" else codes "Sometimes"
 
+unfoldable pub observed_text : ℕ → ℕ → List ℕ
+observed_text met unmet =
+    observation_word met unmet ++ codes " " ++ decimal met ++ codes " " ++ decimal unmet ++ newline
+
 unfoldable pub observation_line : List ℕ → ℕ → ℕ → List ℕ
-observation_line name met unmet =
-    titled (codes "Observation ") name ++ observation_word met unmet ++ codes " " ++ decimal met ++ codes " "
-    ++ decimal unmet ++ newline
+observation_line name met unmet = titled (codes "Observation ") name ++ observed_text met unmet
 
 -- ---- the whole
 

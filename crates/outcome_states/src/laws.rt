@@ -1,9 +1,14 @@
 //! What the text says of the executions of a test.
-ghost use Rattle.outcome_states.specs.Laws.{CountedIsAllowed, CountedRowsSatisfy, OneText, OutcomesAreListed};
+ghost use Rattle.outcome_states.specs.Laws.{CountedIsAllowed, CountedRowsSatisfy, LinesAreApart, OneText, OutcomesAreListed};
 
 /// A state stands there exactly where some execution of the test as it is written ends with it.
 pub fn outcomes_are_listed()
     ensures { OutcomesAreListed }
+{}
+
+/// Two states have one line only where they are one state.
+pub fn lines_are_apart()
+    ensures { LinesAreApart }
 {}
 
 /// A test has one text, or none.

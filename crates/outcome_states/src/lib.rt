@@ -9,7 +9,8 @@
 //! and how many none (`specs/Counting`). The bytes of the text are those of `specs/Text`.
 //!
 //! `laws` has one public function for each law of `specs/Laws`: a state stands there exactly where some execution of the
-//! test ends with it (`outcomes_are_listed`), and a test has one text (`one_text`). The states that are counted are those
+//! test ends with it (`outcomes_are_listed`), its line is no other state's (`lines_are_apart`), and a test has one text
+//! (`one_text`). The states that are counted are those
 //! in which some conjunction holds (`counted_rows_satisfy`), and there are some exactly where x86-TSO allows what the
 //! condition asks for (`counted_is_allowed`).
 #![tactic(auto)]
@@ -23,7 +24,9 @@ mod registers;
 mod states;
 mod text;
 
-pub use laws::{counted_is_allowed, counted_rows_satisfy, one_text, outcomes_are_listed};
+pub use laws::{
+    counted_is_allowed, counted_rows_satisfy, lines_are_apart, one_text, outcomes_are_listed,
+};
 pub use limits::{MOST_STATES, MOST_STEPS};
 pub use outcomes::outcomes_text;
 pub use registers::Refused;

@@ -3,7 +3,7 @@ ghost use Rattle.std.specs.Prelude.{◌≡◌, ◌++◌, All, IfOk, OnOk, codes,
 ghost use Rattle.std.specs.Str.{IsAscii};
 ghost use Rattle.row_decision.specs.Fronts.{register_seen};
 ghost use Rattle.report_text.specs.Words.{number_line};
-ghost use Rattle.outcome_states.specs.Text.{cell_text, head_line, observation_line, observation_word, outcomes_text, quantifier_word, register_name, state_line, titled};
+ghost use Rattle.outcome_states.specs.Text.{cell_text, head_line, observation_line, observation_word, observed_text, outcomes_text, quantifier_word, register_name, state_line, titled};
 
 use crate::counting::count_met;
 use perp_base::{Name, NoMemory};
@@ -103,14 +103,22 @@ fn observation_word(met: usize, unmet: usize) -> &'static str
     }
 }
 
+#[tactic(auto, unfolding(crate::specs::Text::observed_text))]
+fn push_observed(out: &mut String, met: usize, unmet: usize) -> Result<(), NoMemory>
+    ensures { OnOk result (string_bytes out.new ≡ string_bytes out.old ++ observed_text met unmet) }
+{
+    let word = observation_word(met, unmet);
+    write!(out, "{word} {met} {unmet}\n")?;
+    Ok(())
+}
+
 #[tactic(auto, unfolding(crate::specs::Text::observation_line))]
 fn push_observation(out: &mut String, name: &Name, met: usize, unmet: usize) -> Result<(), NoMemory>
     requires { IsAscii name.now }
     ensures { OnOk result (string_bytes out.new ≡ string_bytes out.old ++ observation_line name.now met unmet) }
 {
     push_titled(out, "Observation ", name)?;
-    let word = observation_word(met, unmet);
-    write!(out, "{word} {met} {unmet}\n")?;
+    push_observed(out, met, unmet)?;
     Ok(())
 }
 
