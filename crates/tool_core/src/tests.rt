@@ -476,7 +476,6 @@ fn inputs_without_an_end_are_refused(rt: HostRuntime) -> Result<(), Fail> {
         "verdict",
         "skew 1",
         "count 1",
-        "replay 1",
     ] {
         let mut blanks = Blanks {
             calls: Calls::none(),
