@@ -1,5 +1,5 @@
 -- Two states have one line only where they are one state.
-use Rattle.std.proofs.Common.{◌≡◌, ℕ, zero, suc, ◌+◌, ◌^◌, ◌<◌, ◌≤◌, List, [], ◌∷◌, ◌++◌, codes, decimal, length, refl, sym, ap, ◌∙◌, arith, append_assoc}
+use Rattle.std.proofs.Common.{◌≡◌, ℕ, ◌+◌, ◌^◌, ◌<◌, ◌≤◌, List, [], ◌∷◌, ◌++◌, codes, decimal, length, refl, sym, ◌∙◌, arith, append_assoc}
 use Rattle.std.proofs.lemmas.Fmt.{decimal_injective, decimal_is_IsNumeral}
 use Rattle.std.proofs.lemmas.Str.Parse.{digit_from_value}
 use Rattle.std.specs.List.{AllByRecursion as Each}
@@ -7,7 +7,7 @@ use Rattle.std.specs.Str.Parse.{AllDigits}
 use Rattle.outcome_rows.specs.Rows.{Register}
 use Rattle.report_text.specs.Words.{newline}
 use Rattle.outcome_states.specs.Laws.{LinesAreApart}
-use Rattle.outcome_states.specs.Text.{before_cell, cell_text, cells_from, register_name, state_line}
+use Rattle.outcome_states.specs.Text.{before_cell, cell_text, cells_from, register_name}
 
 abbrev IsNoEnd : ℕ → Type 0
 IsNoEnd c = c ≡ 59 → ⊥

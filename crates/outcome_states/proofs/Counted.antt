@@ -1,13 +1,12 @@
 -- Which rows satisfy what the condition asks for, and how many.
-use Rattle.std.proofs.Common.{◌≡◌, ◌↔◌, ℕ, zero, suc, ◌+◌, ◌-◌, ◌<◌, ◌≤◌, ◌⊎◌, Bool, true, false, not, cond, All, None, Option, Some, List, [], ◌∷◌, filter, length, map, refl, sym, ap, ◌∙◌, subst, inl, inr, arith, eq-eqb}
+use Rattle.std.proofs.Common.{◌≡◌, ℕ, zero, suc, ◌+◌, ◌-◌, ◌<◌, Bool, true, false, not, cond, None, Option, Some, List, [], ◌∷◌, filter, length, map, refl, ap, ◌∙◌, subst, inl, inr, arith, eq-eqb}
 use Rattle.std.proofs.lemmas.Bool.{and_from, and_parts, eqb-true}
 use Rattle.std.proofs.lemmas.List.Elements.{All-from_recursion, recursion_from_All}
 use Rattle.std.proofs.lemmas.List.Sums.{length-filter}
-use Rattle.std.specs.List.{AllByRecursion as Each, count_by, list_all, list_any, range_with_len}
+use Rattle.std.specs.List.{AllByRecursion as Each, count_by, list_all, range_with_len}
 use Rattle.perp_base.proofs.Lists.{any_map, each_weaker}
-use Rattle.choice_search.proofs.Finds.{Finds, any_found}
+use Rattle.choice_search.proofs.Finds.{any_found}
 use Rattle.x86_subset.specs.Conjunctions.{conjunction_of}
-use Rattle.x86_subset.specs.Shape.{IsTest}
 use Rattle.x86_subset.specs.Test.{LitmusTest}
 use Rattle.x86_subset.specs.declared.test.Atom.{Atom}
 use Rattle.decision.proofs.Hits.{any_range}
@@ -15,7 +14,7 @@ use Rattle.outcome_rows.specs.Conditions.{Satisfies, value_in}
 use Rattle.outcome_rows.specs.Rows.{Register}
 use Rattle.outcome_rows.proofs.Conditioned.{outcomes_are_rows_lem}
 use Rattle.outcome_rows.proofs.Members.{In, among_in, filter_in, in_filter, in_from, in_to, map_in}
-use Rattle.outcome_states.specs.Counting.{count_met, count_unmet, holds_in, is_met, is_value}
+use Rattle.outcome_states.specs.Counting.{holds_in, is_met, is_value}
 use Rattle.outcome_states.specs.Laws.{CountedIsAllowed, CountedRowsSatisfy}
 use Rattle.outcome_states.specs.Registers.{registers_of}
 use Rattle.outcome_states.proofs.Held.{named_hold, names_among}

@@ -1,10 +1,10 @@
 -- The registers that a condition names hold reads, and each atom's register is among them.
-use Rattle.std.proofs.Common.{◌≡◌, ℕ, zero, suc, ◌+◌, ◌-◌, ◌<◌, ◌≤◌, ◌==◌, ◌&&◌, ◌⊎◌, Bool, true, false, not, cond, All, drop, take, Option, None, Some, List, [], ◌∷◌, ◌++◌, filter, length, map, nat_lt, slice_get, option_and_then, refl, sym, ap, ◌∙◌, subst, inl, inr, arith, eq-eqb}
+use Rattle.std.proofs.Common.{◌≡◌, ℕ, zero, suc, ◌+◌, ◌-◌, ◌<◌, ◌≤◌, ◌==◌, ◌⊎◌, Bool, true, false, not, cond, drop, take, Option, None, Some, List, [], ◌∷◌, length, nat_lt, slice_get, option_and_then, refl, sym, ap, ◌∙◌, subst, inl, inr, arith, eq-eqb}
 use Rattle.std.proofs.lemmas.Bool.{and_from, and_parts, cases_eq, eqb-true, ltb-true}
 use Rattle.std.proofs.lemmas.List.Elements.{All-from_recursion}
-use Rattle.std.specs.List.{AllByRecursion as Each, flat_map, list_any, range_with_len, slice_range}
+use Rattle.std.specs.List.{AllByRecursion as Each, flat_map, list_any, range_with_len}
 use Rattle.std.specs.Option.{is_some}
-use Rattle.perp_base.proofs.Lists.{Among, each_among, each_from_among}
+use Rattle.perp_base.proofs.Lists.{Among, each_among}
 use Rattle.choice_search.proofs.Finds.{any_among, any_found}
 use Rattle.x86_subset.specs.Conjunctions.{conjunction_of, from_of, to_of}
 use Rattle.x86_subset.specs.Registers.{place_held, register_number}
@@ -16,7 +16,7 @@ use Rattle.profile_check.specs.declared.kind.ProfileKind.{ProfileKind}
 use Rattle.profile_check.specs.declared.kind.ProfileKind.TheVariants.{NoSuchThread, NotLoaded}
 use Rattle.outcome_rows.specs.Conditions.{NamesAmong, is_register}
 use Rattle.outcome_rows.specs.Rows.{HoldReads, HoldsRead, Register}
-use Rattle.outcome_rows.proofs.Members.{In, among_in, each_in, filter_in, in_among, in_filter, in_left, in_map, in_right}
+use Rattle.outcome_rows.proofs.Members.{In, each_in, filter_in, in_among, in_filter, in_left, in_map, in_right}
 use Rattle.outcome_states.specs.Registers.{first_unread, is_named, register_of, registers_of, registers_of_thread, unread_by, unread_from, unread_kind}
 use Rattle.outcome_states.specs.declared.registers.Refused.{Refused}
 

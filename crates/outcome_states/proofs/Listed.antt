@@ -1,9 +1,9 @@
 -- The states of a test: what is told of front parts, and what their text says.
-use Rattle.std.proofs.Common.{◌≡◌, ℕ, zero, suc, ◌+◌, ◌<◌, ◌≤◌, Bool, true, false, All, IfOk, MatchResult, Option, None, Some, Result, Ok, Err, List, [], ◌∷◌, length, map, min, take, refl, sym, ap, ◌∙◌, subst, arith}
+use Rattle.std.proofs.Common.{◌≡◌, ℕ, suc, ◌+◌, Bool, true, false, All, IfOk, MatchResult, Option, None, Some, Result, Ok, Err, List, [], ◌∷◌, length, map, min, take, refl, sym, ap, ◌∙◌, subst}
 use Rattle.std.specs.List.{take-map}
 use Rattle.std.proofs.lemmas.List.{take_min}
 use Rattle.std.proofs.lemmas.List.Elements.{All-from_recursion}
-use Rattle.std.specs.List.{AllByRecursion as Each, AllZip}
+use Rattle.std.specs.List.{AllZip}
 use Rattle.x86_subset.specs.Test.{LitmusTest}
 use Rattle.outcome_rows.specs.Listing.{AreAllRows}
 use Rattle.outcome_rows.specs.Limits.{IsStop}
@@ -11,7 +11,7 @@ use Rattle.outcome_rows.specs.Rows.{EndsWith, HoldReads, HoldsRead, IsRow, Regis
 use Rattle.outcome_rows.specs.declared.rows.Stop.{Stop}
 use Rattle.outcome_rows.specs.declared.rows.Stop.TheVariants as stop
 use Rattle.outcome_rows.proofs.Loops.{each_take}
-use Rattle.outcome_rows.proofs.Members.{In, each_in, in_map, in_to}
+use Rattle.outcome_rows.proofs.Members.{each_in, in_map, in_to}
 use Rattle.outcome_rows.proofs.Counting.{all_rows_are_one_lem}
 use Rattle.row_decision.specs.Fronts.{IsFront, IsFrontOf, register_seen}
 use Rattle.row_decision.specs.declared.front.Register.{Register as RegisterOf}

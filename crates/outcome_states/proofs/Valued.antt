@@ -1,16 +1,15 @@
 -- The values that can come in a register, put in order.
-use Rattle.std.proofs.Common.{◌≡◌, ℕ, zero, suc, ◌+◌, ◌<◌, ◌≤◌, ◌==◌, Bool, true, false, cond, Option, None, Some, List, [], ◌∷◌, ◌++◌, drop, get_or, leb, length, ltb, map, nat_lt, take, refl, sym, ap, ◌∙◌, arith, eq-eqb}
+use Rattle.std.proofs.Common.{◌≡◌, ℕ, zero, suc, ◌+◌, ◌<◌, ◌≤◌, ◌==◌, Bool, true, false, cond, None, Some, List, [], ◌∷◌, ◌++◌, drop, get_or, leb, length, ltb, map, nat_lt, take, refl, sym, ap, ◌∙◌, arith, eq-eqb}
 use Rattle.std.proofs.Math.Seq.{drop-cons}
 use Rattle.std.proofs.lemmas.Bool.{le-ltb, leb-false, leb-true, lt-ltb, ltb-false, ne_eqb}
-use Rattle.std.proofs.lemmas.List.{map-append, take_all}
+use Rattle.std.proofs.lemmas.List.{map-append}
 use Rattle.std.proofs.lemmas.List.Quantifiers.{position-Some}
 use Rattle.std.proofs.lemmas.List.Sums.{fails_before_first}
 use Rattle.std.specs.List.{insert, position, position_or_len}
 use Rattle.x86_subset.specs.Test.{LitmusTest}
 use Rattle.seq_conv.specs.Sequence.{Site}
-use Rattle.verdict.specs.Edges.{node}
 use Rattle.outcome_rows.specs.Listing.{columns_of_values, put_value, risen, values_stored}
-use Rattle.outcome_rows.specs.Rows.{HoldReads, HoldsRead, Register, text_value}
+use Rattle.outcome_rows.specs.Rows.{HoldReads, HoldsRead, Register}
 use Rattle.row_decision.specs.Fronts.{register_seen}
 use Rattle.row_decision.specs.declared.front.Register.{Register as RegisterOf}
 use Rattle.outcome_rows.proofs.Loops.{take_more}

@@ -4,7 +4,7 @@ use Rattle.std.specs.List.{AllByRecursion as Each, AllZip}
 use Rattle.x86_subset.specs.Shape.{IsTest}
 use Rattle.x86_subset.specs.Test.{LitmusTest}
 use Rattle.litmus_outcomes.specs.Machine.{Step}
-use Rattle.litmus_outcomes.specs.Outcome.{IsAllowed, IsExecution, final_value}
+use Rattle.litmus_outcomes.specs.Outcome.{IsAllowed, IsExecution}
 use Rattle.outcome_rows.specs.Conditions.{Satisfies}
 use Rattle.outcome_rows.specs.Listing.{AreAllRows}
 use Rattle.outcome_rows.specs.Rows.{EndsWith, Register}

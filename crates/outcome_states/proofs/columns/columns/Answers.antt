@@ -1,4 +1,4 @@
-use Rattle.std.proofs.Common.{ℕ, ◌∙◌, List, Vec, Global, ap, get_or, map}
+use Rattle.std.proofs.Common.{ℕ, ◌∙◌, List, Vec, Global, ap, map}
 use Rattle.std.proofs.lemmas.List.{take_all}
 use Rattle.x86_subset.specs.declared.instr.Reg.TheVariants.{Eax}
 use Rattle.outcome_rows.specs.Listing.{columns_of_values}

@@ -1,7 +1,6 @@
-use Rattle.std.proofs.Common.{ℕ, ◌<◌, ◌∙◌, List, arith, length, map, sym}
+use Rattle.std.proofs.Common.{◌<◌, ◌∙◌, arith, length, map, sym}
 use Rattle.std.specs.List.{list_all}
 use Rattle.x86_subset.specs.Conjunctions.{conjunction_of}
-use Rattle.x86_subset.specs.declared.test.Atom.{Atom}
 use Rattle.row_decision.specs.Fronts.{register_seen}
 use Rattle.outcome_states.specs.Counting.{holds_in}
 use Rattle.outcome_states.proofs.Written.{none_met, one_met}
