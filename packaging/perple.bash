@@ -47,7 +47,7 @@ _perple_tool() {
     local word=${COMP_WORDS[COMP_CWORD]} before=${COMP_WORDS[COMP_CWORD - 1]}
     COMPREPLY=()
     if [ "$COMP_CWORD" -eq 1 ]; then
-        COMPREPLY=($(compgen -W 'judge order witness verdict show faithful count replay skew' -- "$word"))
+        COMPREPLY=($(compgen -W 'judge order witness verdict show outcomes faithful count replay skew' -- "$word"))
         return
     fi
     case ${COMP_WORDS[1]} in
@@ -67,7 +67,7 @@ _perple_explain() {
         COMPREPLY=($(compgen -f -X '!*.litmus' -- "$word") $(compgen -d -- "$word"))
         ;;
     2) COMPREPLY=(--) ;;
-    3) COMPREPLY=($(compgen -W 'run replay convert demo judge order witness verdict show faithful skew' -- "$word")) ;;
+    3) COMPREPLY=($(compgen -W 'run replay convert demo judge order witness verdict show outcomes faithful count skew' -- "$word")) ;;
     *)
         local COMP_WORDS=(perple "${COMP_WORDS[@]:3}") COMP_CWORD=$((COMP_CWORD - 2))
         case $command in

@@ -1,13 +1,11 @@
-"""Every outcome of a test as it is written, and a run for each, by exploring the machine of tools/operational.py. Nothing here is proved:
-the tools have their runs judged by `perple_tool judge`, and ask `perple_tool show` first."""
+"""Runs of a test that end with given values, by exploring the machine of tools/operational.py. Nothing here is proved: the tools have
+their runs judged by `perple_tool judge`, and ask `perple_tool show` first."""
 import collections
 import sys
 
 import judging
-import litmus
 import operational
 
-MOST_STATES = 10_000
 MOST_MOMENTS = 100_000  # memory, buffers and how far the threads are
 KINDS = {"store": "push", "load": "read", "fence": "fence", "exchange": "exchange"}
 
@@ -16,30 +14,29 @@ Event = collections.namedtuple("Event", "thread place kind")
 
 
 class TooMany(Exception):
-    """Why the outcomes are not listed, in one line."""
+    """The machine of a test has too many moments to be explored."""
 
 
-class Outcomes(operational.Machine):
-    """The final values of the registers that the condition names (`rows`), and runs that have them."""
+class Runs(operational.Machine):
+    """Runs that end with given values of some registers."""
 
-    def __init__(self, test):
-        self.registers = litmus.asked(test)
-        super().__init__(test, self.registers)
+    def __init__(self, test, registers):
+        super().__init__(test, registers)
         sys.setrecursionlimit(20_000)
-        self.rows = sorted(self.states())
-        if len(self.rows) > MOST_STATES:
-            raise TooMany("there are more than %d outcomes" % MOST_STATES)
 
     def ending(self, state):
         if len(self.endings) > MOST_MOMENTS:
-            raise TooMany("the machine of this test has more than %d moments" % MOST_MOMENTS)
-        found = super().ending(state)
-        if len(found) > MOST_STATES:
-            raise TooMany("there are more than %d outcomes" % MOST_STATES)
-        return found
+            raise TooMany
+        return super().ending(state)
 
     def run(self, row):
-        """The events of a run that ends with a row."""
+        """The events of a run that ends with a row; None where the machine is too large."""
+        try:
+            return self.explored(row)
+        except TooMany:
+            return None
+
+    def explored(self, row):
         threads = len(self.test.bodies)
         state = operational.State((0,) * threads, ((),) * threads, (0,) * len(self.test.locations), None)
         waiting, events, wanted = [[] for _ in range(threads)], [], row
@@ -62,22 +59,6 @@ class Outcomes(operational.Machine):
             if after.done[thread] > place and body[place].kind != "exchange":
                 return [Event(thread, place, KINDS[body[place].kind])]
         return []
-
-
-def fenced(test):
-    """The test with a fence behind each store; None where that has more actions than a thread may have."""
-    other = litmus.Test(test.name)
-    other.locations, other.negated, other.atoms, other.ends = test.locations, test.negated, test.atoms, test.ends
-    for body, held in zip(test.bodies, test.held):
-        actions, places = [], []
-        for action in body:
-            places.append(len(actions))
-            actions += [action] + [litmus.Action("fence", None, None, None)] * (action.kind == "store")
-        if len(actions) > 16:
-            return None
-        other.bodies.append(actions)
-        other.held.append({reg: (kept, places[value] if kept == "read" else value) for reg, (kept, value) in held.items()})
-    return other
 
 
 class Walk:

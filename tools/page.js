@@ -178,7 +178,7 @@
     if (words.has("events")) {
       row = null;
       moments = follow(words.get("events").split(".").filter(Boolean).map(long)).moments;
-    } else if (data.runs.length) choose(number >= 1 && number <= data.runs.length ? number : 1);
+    } else if (data.runs.some((run) => run !== null)) choose(data.runs[number - 1] ? number : 1 + data.runs.findIndex((run) => run !== null));
     at = Math.max(0, Math.min(moments.length - 1, Number(words.get("step")) || 0));
     show(isPlace());
   }
@@ -328,7 +328,8 @@
   }
 
   function addRuns() {
-    data.runs.forEach((_, number) => {
+    data.runs.forEach((run, number) => {
+      if (run === null) return;
       const chosen = () => {
         stop();
         choose(number + 1);

@@ -1,11 +1,19 @@
 """A test as it is written: its comment, the rows of its code, the instruction of each action, and its condition."""
+import itertools
 import re
 
 import litmus
 
+MOST_ACTIONS = 16  # of one thread
+
 
 def without_comments(text):
     return re.sub(r"\(\*.*?\*\)", " ", text, flags=re.S)
+
+
+def is_store(cell):
+    """Whether a cell is a store; an exchange is none."""
+    return re.match(r"mov\s*\[", cell, re.I) is not None
 
 
 def is_action(cell):
@@ -49,6 +57,18 @@ class Text:
         front = self.raw[:self.condition_at()].decode("utf-8", "replace")
         asked = [" /\\ ".join("%d:%s=%d" % (thread, reg.upper(), value) for thread, reg, value, *_ in group) for group in groups]
         return (front + "exists (%s)\n" % " \\/ ".join(asked)).encode()
+
+    def fenced(self):
+        """The text with a fence behind each store; None where that has more actions than a thread may have."""
+        columns = []
+        for thread in range(len(self.test.bodies)):
+            cells = [row[thread] for row in self.rows if row[thread]]
+            columns.append([line for cell in cells for line in [cell] + ["MFENCE"] * is_store(cell)])
+            if sum(map(is_action, columns[-1])) > MOST_ACTIONS:
+                return None
+        head = " | ".join("P%d" % thread for thread in range(len(columns)))
+        rows = [" | ".join(row) for row in itertools.zip_longest(*columns, fillvalue="")]
+        return ("X86 %s\n{ }\n%s%s\n" % (self.test.name, "".join(row + " ;\n" for row in [head] + rows), self.condition)).encode()
 
     def condition_at(self):
         """Where the condition begins; each comment is as long as before, so that places stay."""

@@ -1,7 +1,8 @@
 """The page of a test, as one HTML file: what `tools/page` and `tools/pages` write.
 
-Verdicts, runs and cycles are those of `perple_tool show`. The table of outcomes is listed by exploring the machine in Python,
-which is not proved; each run that stands in the page was judged legal by `perple_tool judge`, and has its row at its end."""
+The table of outcomes is that of `perple_tool outcomes`, and verdicts, runs and cycles are those of `perple_tool show`. Where `show` gives
+no run of an outcome, one is searched for in Python. Each run that stands in the page was judged legal by `perple_tool judge`, and has its
+row at its end."""
 import collections
 import json
 import os
@@ -10,13 +11,15 @@ from html import escape
 
 import cycles
 import exploring
+import listing
+import litmus
 import program_text
 import programs
 
 MOST_ROWS = 64
 MOST_LEAVES = 16
 HERE = os.path.dirname(os.path.realpath(__file__))
-LISTED = "Listed by the page's maker by exploring the machine; not proved."
+LISTED = "Listed by perple_tool outcomes: these are all, and each is the outcome of an execution; proved."
 
 # What is said of an event, here and in the page's own program.
 SENTENCES = {
@@ -30,7 +33,7 @@ SENTENCES = {
 }
 
 # A row of the table of outcomes: its values, whether it has the condition, whether only store buffers make it possible, and
-# the events of a run with whose it is, or None.
+# the events of a run with whose it is; None for both where no run was found.
 Row = collections.namedtuple("Row", "values has_condition is_relaxed events by")
 
 
@@ -47,14 +50,12 @@ class Page:
         self.rows, self.left_out, self.refusal, self.registers = [], 0, "", []
         self.states, self.marks_relaxed = None, False  # every outcome, where they are listed
         try:
-            self.outcomes = exploring.Outcomes(self.test)
-            self.registers = self.outcomes.registers
+            listed = listing.outcomes(text.raw)
+            self.registers, self.states = listed.registers, listed.states
             self.list_rows()
-        except exploring.TooMany as why:
-            self.refusal, self.registers = str(why), exploring.litmus.asked(self.test)
+        except listing.NotListed as why:
+            self.refusal = str(why)
             self.shown_row()
-        except exploring.litmus.Refused as refused:
-            self.refusal = refused.line.strip()
         self.reasons = self.forbidden()
 
     def show(self, raw):
@@ -63,33 +64,42 @@ class Page:
     # ---- outcomes and runs
 
     def list_rows(self):
-        test, registers = self.test, self.registers
-        fenced = exploring.fenced(test)
-        strong = set(exploring.Outcomes(fenced).rows) if fenced else None
-        states = sorted(self.outcomes.rows, key=lambda state: (not exploring.litmus.satisfies(test, registers, state), state))
+        strong, runs = self.strong_states(), exploring.Runs(self.test, self.registers)
+        states = sorted(self.states, key=lambda state: not self.has_condition(state))
         self.left_out = max(0, len(states) - MOST_ROWS)
         for state in states[:MOST_ROWS]:
-            events, by = self.run_of(state)
-            self.rows.append(Row(state, exploring.litmus.satisfies(test, registers, state),
-                                 strong is not None and state not in strong, events, by))
+            events, by = self.run_of(state, runs)
+            self.rows.append(Row(state, self.has_condition(state), strong is not None and state not in strong, events, by))
         self.marks_relaxed = strong is not None
-        self.states = states
+
+    def has_condition(self, state):
+        return litmus.satisfies(self.test, self.registers, state)
+
+    def strong_states(self):
+        """The outcomes of the test with a fence behind each store; None where they are not listed."""
+        fenced = self.text.fenced()
+        try:
+            return fenced and set(listing.outcomes(fenced).states)
+        except listing.NotListed:
+            return None
 
     def shown_row(self):
         """Where the outcomes are not listed: the run of `show`, if it gives one."""
         status, out, _ = self.answer
         if status == 0 and out.startswith("%events"):
-            events = exploring.shown(out)
+            events, self.registers = exploring.shown(out), litmus.asked(self.test)
             state = exploring.final(self.test, self.registers, events)
             self.judge(events)
-            self.rows = [Row(state, exploring.litmus.satisfies(self.test, self.registers, state), False, events, "show")]
+            self.rows = [Row(state, self.has_condition(state), False, events, "show")]
 
-    def run_of(self, state):
+    def run_of(self, state, runs):
         """A run for a row: that of `show` of the test with the row as its condition; where it gives none, one that is searched for."""
         row = [(thread, reg, value) for (thread, reg), value in zip(self.registers, state)]
         status, out, _ = self.show(self.text.conditioned([row])) if len(row) <= 32 else (1, "", "")
         by = "show" if status == 0 and out.startswith("%events") else "search"
-        events = exploring.shown(out) if by == "show" else self.outcomes.run(state)
+        events = exploring.shown(out) if by == "show" else runs.run(state)
+        if events is None:
+            return None, None
         if exploring.final(self.test, self.registers, events) != state:
             raise NoPage("the run of a row has another outcome: %s" % (state,))
         self.judge(events)
@@ -111,7 +121,7 @@ class Page:
             groups = range(len(self.test.ends))
         else:
             groups = [number for number, group in enumerate(self.test.conjunctions())
-                      if not any(exploring.litmus.has(group, self.registers, state) for state in self.states)]
+                      if not any(litmus.has(group, self.registers, state) for state in self.states)]
         return [(group, *self.reason(group)) for group in groups]
 
     def reason(self, group):
@@ -132,9 +142,9 @@ class Page:
         said = "perple_tool show says: %s." % (out or err).strip().split("\n")[0]
         if self.states is None:
             return "Open", said
-        if any(row.has_condition for row in self.rows):
-            return "Allowed", said + " The page's maker found a run, and perple_tool judge calls it legal."
-        return "Not found", said + " The page's maker found no execution with this outcome; that is not proved."
+        if any(map(self.has_condition, self.states)):
+            return "Allowed", "perple_tool outcomes lists an outcome with it, so x86-TSO allows it."
+        return "Forbidden", "perple_tool outcomes lists every outcome, and none has it."
 
 
 # ---- what is written
@@ -193,9 +203,8 @@ def outcome_table(page):
                             class_="has" if row.has_condition else "other"))
     for group, _, tree, _ in page.reasons:
         words = element("code", escape(condition_of(page.test.conjunctions()[group])))
-        word = "forbidden" if tree else "not found"
         rows.append(element("tr", element("th", "") + element(
-            "td", '%s <a href="#why%d">%s</a>' % (words, group, mark(word, "why")), colspan=len(page.registers) + 1), class_="never"))
+            "td", '%s <a href="#why%d">%s</a>' % (words, group, mark("forbidden", "why")), colspan=len(page.registers) + 1), class_="never"))
     return '<div class="rows"><table id="outcomes"><thead><tr>%s</tr></thead>\n<tbody>%s</tbody></table></div>' % (
         "".join(element("th", word, scope="col") for word in head), "\n".join(rows))
 
@@ -238,9 +247,9 @@ def leaf(text, reasons, tree):
 
 def why(page, group, text, tree, said):
     asked = element("code", escape(condition_of(page.test.conjunctions()[group])))
-    title = element("h3", ("Why never: " if tree else "Not found: ") + asked)
+    title = element("h3", "Why never: " + asked)
     if tree is None:
-        body = element("p", escape("perple_tool show says: %s. The page's maker found no execution with it; that is not proved." % said))
+        body = element("p", escape("perple_tool outcomes lists every outcome, and none has it. perple_tool show gives no reason: %s." % said))
     else:
         reasons, parts = cycles.Reasons(text), []
         found = list(cycles.leaves(tree))
@@ -254,11 +263,12 @@ def why(page, group, text, tree, said):
 
 
 def run_list(page):
-    """The first row's run, told; the page's program puts others in its place."""
-    if not page.rows:
+    """The first run that there is, told; the page's program puts others in its place."""
+    number = next((number for number, row in enumerate(page.rows) if row.events is not None), None)
+    if number is None:
         return ""
-    steps = "".join(element("li", escape(words)) for words in told(page.test, page.rows[0].events))
-    return '<section id="steps"><h2>A run with outcome 1</h2><ol id="events">%s</ol></section>' % steps
+    steps = "".join(element("li", escape(words)) for words in told(page.test, page.rows[number].events))
+    return '<section id="steps"><h2>A run with outcome %d</h2><ol id="events">%s</ol></section>' % (number + 1, steps)
 
 
 def constants(text, thread):
@@ -286,7 +296,7 @@ def data(page):
     test = page.test
     bodies = [[{"kind": action.kind, "loc": action.loc, "value": action.value, "reg": action.reg and action.reg.upper()}
                for action in body] for body in test.bodies]
-    runs = [" ".join("%d%s%d" % (event.thread, event.kind[0], event.place) for event in row.events) for row in page.rows]
+    runs = [row.events and " ".join("%d%s%d" % (event.thread, event.kind[0], event.place) for event in row.events) for row in page.rows]
     return {"name": test.name, "locations": test.locations, "bodies": bodies, "negated": test.negated, "runs": runs,
             "by": [row.by for row in page.rows], "sentences": SENTENCES, "instructions": page.text.instructions,
             "constants": [constants(page.text, thread) for thread in range(len(bodies))],

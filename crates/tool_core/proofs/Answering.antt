@@ -7,7 +7,8 @@ use Rattle.litmus_reader.specs.Reading.{Reads}
 use Rattle.report_text.specs.declared.status.Status.TheVariants.{Memory}
 use Rattle.run_text.specs.Sections.{Split}
 use Rattle.program_edge.specs.Field.{IsStill}
-use Rattle.tool_core.specs.Due.{IsDue, due_for_test, parts_of}
+use Rattle.program_edge.specs.Request.{IsRefusalOfText}
+use Rattle.tool_core.specs.Due.{StopsAt, StopsOn, due_for_test, parts_of, tool_program}
 use Rattle.tool_core.specs.Top.{Accepts, IsAnswer, IsStillOrRan, IsText, RanFor}
 use Rattle.tool_core.specs.declared.words.Command.{Command}
 use Rattle.tool_core.specs.declared.status.ToolStatus.{ToolStatus}
@@ -21,7 +22,8 @@ pub record Works (command : Command) (test : LitmusTest) (parts : Split) (done :
     (text : Result (String Global) ToolStatus) : Type 0 where
   pub none_due : IfOk text (λ _. due_for_test command test parts ≡ None)
   pub right : IfOk text (λ t. IsText command test parts done (string_bytes t))
-  pub err : IfErr text (λ s. (s ≡ Core Memory) ⊎ (due_for_test command test parts ≡ Some s))
+  pub err : IfErr text (λ s. (s ≡ Core Memory) ⊎ ((due_for_test command test parts ≡ Some s)
+      ⊎ ((due_for_test command test parts ≡ None) × StopsAt command test s)))
   pub still : IfErr text (λ s. IsStill done ⊎ ((s ≡ Core Memory) × (due_for_test command test parts ≡ None)
       × RanFor command test done))
 
@@ -56,16 +58,24 @@ answered command input parts test done (Err s) has works = tt
 
 due_by : (command : Command) (input : List ℕ) (parts : Split) (test : LitmusTest) (s : ToolStatus)
     → Has command input parts test
-    → (s ≡ Core Memory) ⊎ (due_for_test command test parts ≡ Some s) → (s ≡ Core Memory) ⊎ IsDue command input (Some s)
+    → (s ≡ Core Memory) ⊎ ((due_for_test command test parts ≡ Some s)
+    ⊎ ((due_for_test command test parts ≡ None) × StopsAt command test s))
+    → IsRefusalOfText tool_program command input s
 due_by command input parts test s has (inl memory) = inl memory
-due_by command input parts test s has (inr due) =
-    inr (due_for_text command input parts (Some s) has.parts_are has.short
-    (test_is_due command parts test (Some s) has.reading due))
+due_by command input parts test s has (inr (inl due)) =
+    inr (inl (due_for_text command input parts (Some s) has.parts_are has.short
+    (test_is_due command parts test (Some s) has.reading due)))
+due_by command input parts test s has (inr (inr stops)) =
+    inr (inr (
+      due_for_text command input parts None has.parts_are has.short
+          (test_is_due command parts test None has.reading stops.0),
+      record { parts = parts; test = test; parts_are = has.parts_are; reading = has.reading; stops = stops.1 },
+    ))
 
 pub refused : (command : Command) (input : List ℕ) (parts : Split) (test : LitmusTest) (done : Closed)
     (text : Result (String Global) ToolStatus)
     → Has command input parts test → Works command test parts done text
-    → IfErr text (λ s. (s ≡ Core Memory) ⊎ IsDue command input (Some s))
+    → IfErr text (IsRefusalOfText tool_program command input)
 refused command input parts test done (Ok t) has works = tt
 refused command input parts test done (Err s) has works = due_by command input parts test s has works.err
 

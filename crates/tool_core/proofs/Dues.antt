@@ -1,5 +1,5 @@
 -- Each input has one refusal that is due, or none; and which statuses are refusals of an input.
-use Rattle.std.proofs.Common.{◌≡◌, ◌⊎◌, inl, inr, ℕ, ◌≤◌, Bool, true, false, List, length, Some, None, Result, Ok, Err, nat_lt, if◌then◌else◌, MatchBool, option_map, refl, sym, ap, subst, ◌∙◌, arith}
+use Rattle.std.proofs.Common.{◌≡◌, ◌⊎◌, inl, inr, ℕ, ◌≤◌, ◌+◌, Bool, true, false, List, [], ◌∷◌, length, Some, None, Result, Ok, Err, nat_lt, if◌then◌else◌, MatchBool, option_map, refl, sym, ap, subst, ◌∙◌, arith}
 use Rattle.std.specs.declared.option.Option.{Option}
 use Rattle.x86_subset.specs.Test.{LitmusTest}
 use Rattle.x86_subset.specs.declared.test.Shape.{Shape}
@@ -7,7 +7,14 @@ use Rattle.x86_subset.specs.declared.test.Shape.TheVariants as shapes
 use Rattle.litmus_reader.specs.Answer.{Answer, Accepted, Refused as Unread, Over as TooLarge}
 use Rattle.litmus_reader.specs.Reading.{Reads}
 use Rattle.litmus_reader.proofs.ReadingLaws.{same_reading}
+use Rattle.profile_check.specs.Kinds.{kind_number}
 use Rattle.profile_check.specs.Profile.{Profile, inside, outside, profile_of}
+use Rattle.profile_check.specs.declared.kind.ProfileKind.{ProfileKind}
+use Rattle.profile_check.specs.declared.kind.ProfileKind.TheVariants.{NoSuchThread, NotLoaded}
+use Rattle.outcome_states.specs.Registers.{unread_by, unread_from, unread_kind}
+use Rattle.outcome_states.specs.declared.registers.Refused.{Refused as Unanswered}
+use Rattle.x86_subset.specs.declared.test.Atom.{Atom}
+use Rattle.tool_core.specs.Outcomes.{status_of}
 use Rattle.report_text.specs.declared.status.Over.{Over}
 use Rattle.report_text.specs.declared.status.Over.TheVariants.{Input, Threads, Locations, Instructions, Atoms, Frames}
 use Rattle.report_text.specs.declared.status.Status.{Status}
@@ -15,13 +22,13 @@ use Rattle.report_text.specs.declared.status.Status.TheVariants.{Whole, Memory, 
 use Rattle.run_text.specs.Events.{events_of}
 use Rattle.run_text.specs.Sections.{Split}
 use Rattle.program_edge.specs.Form.{due_for_atoms, due_for_form, over_of}
-use Rattle.tool_core.specs.Due.{IsDue, IsDueForParts, IsDueForText, due_for_events, due_for_frames, due_for_lines, due_for_reading, due_for_test, due_for_witness, due_for_writers, first_due, most_events_of, parts_of, section_logs}
+use Rattle.tool_core.specs.Due.{IsDue, StopsAt, IsDueForParts, IsDueForText, due_for_events, due_for_frames, due_for_lines, due_for_reading, due_for_test, due_for_witness, due_for_writers, first_due, most_events_of, parts_of, section_logs}
 use Rattle.tool_core.specs.Counting.{frame_count_of}
-use Rattle.tool_core.specs.Top.{AsksForFrames, AsksForKinds}
+use Rattle.tool_core.specs.Top.{AsksForFrames, AsksForKind}
 use Rattle.tool_core.specs.declared.words.Command.{Command}
-use Rattle.tool_core.specs.declared.words.Command.TheVariants.{Judge, Order, Witness, Verdict, Show, Faithful, Skew, Count, Replay}
+use Rattle.tool_core.specs.declared.words.Command.TheVariants.{Judge, Order, Witness, Verdict, Show, Outcomes, Faithful, Skew, Count, Replay}
 use Rattle.tool_core.specs.declared.status.ToolStatus.{ToolStatus}
-use Rattle.tool_core.specs.declared.status.ToolStatus.TheVariants.{Core, NoSection, BadLine, TooLong, Events, SeveralWriters}
+use Rattle.tool_core.specs.declared.status.ToolStatus.TheVariants.{Core, NoSection, BadLine, TooLong, Events, SeveralWriters, States, Steps}
 
 -- ---- one refusal
 
@@ -62,13 +69,15 @@ IsOfInput command (Core Usage) = ⊥
 IsOfInput command (Core ReadFault) = ⊥
 IsOfInput command (Core WriteFault) = ⊥
 IsOfInput command (Core (NotLitmus kind line)) = Unit {0}
-IsOfInput command (Core (OutsideProfile atom kind)) = AsksForKinds command
+IsOfInput command (Core (OutsideProfile atom kind)) = AsksForKind command kind
 IsOfInput command (Core (Limit over)) = IsOfText command over
 IsOfInput command NoSection = Unit {0}
 IsOfInput command (BadLine line) = Unit {0}
 IsOfInput command TooLong = ⊥
 IsOfInput command Events = Unit {0}
 IsOfInput command (SeveralWriters location) = Unit {0}
+IsOfInput command States = ⊥
+IsOfInput command Steps = ⊥
 
 some_of : (command : Command) (s t : ToolStatus) → Some s ≡ Some t → IsOfInput command s → IsOfInput command t
 some_of command s t e of = let same : s ≡ t = cc in subst (IsOfInput command) same of
@@ -102,10 +111,32 @@ of_witness command test n =
     of_first command (due_for_writers test) (due_for_events test n)
     (of_location command _) (of_count command (nat_lt 1000000 (most_events_of test n)))
 
-of_profile : (command : Command) (profile : Profile) → AsksForKinds command
+of_profile : (command : Command) (profile : Profile) → ((kind : ℕ) → AsksForKind command kind)
     → Gives command (option_map Core (due_for_atoms profile))
 of_profile command inside counts = of_none command
-of_profile command (outside atom kind) counts = λ s e. some_of command (Core (OutsideProfile atom _)) s e counts
+of_profile command (outside atom kind) counts = λ s e.
+    some_of command (Core (OutsideProfile atom _)) s e (counts (kind_number kind))
+
+-- an atom that asks for no read is refused with one of the first two kinds
+of_unread_kind : (kind : Option ProfileKind) (n : ℕ) (rest : Option Unanswered)
+    → ((k : ProfileKind) → kind ≡ Some k → kind_number k ≤ 2) → Gives Outcomes (option_map status_of rest)
+    → Gives Outcomes (option_map status_of (unread_by kind n rest))
+of_unread_kind None n rest low gives = gives
+of_unread_kind (Some k) n rest low gives = λ s e.
+    some_of Outcomes (Core (OutsideProfile n (kind_number k))) s e (low k refl)
+
+low_by : (none read : Bool) (k : ProfileKind)
+    → (if none then Some NoSuchThread else if read then None else Some NotLoaded) ≡ Some k → kind_number k ≤ 2
+low_by true read k e = let same : NoSuchThread ≡ k = cc in subst (λ (x : ProfileKind). kind_number x ≤ 2) same arith
+low_by false true k e = absurd (cc)
+low_by false false k e = let same : NotLoaded ≡ k = cc in subst (λ (x : ProfileKind). kind_number x ≤ 2) same arith
+
+of_unread : (test : LitmusTest) (n : ℕ) (atoms : List Atom)
+    → Gives Outcomes (option_map status_of (unread_from test n atoms))
+of_unread test n [] = of_none Outcomes
+of_unread test n (atom ∷ atoms) =
+    of_unread_kind (unread_kind test atom) n (unread_from test (n + 1) atoms) (λ k. low_by _ _ k)
+    (of_unread test (n + 1) atoms)
 
 of_frames : (command : Command) (many : Bool) → AsksForFrames command
     → Gives command (if many then Some (Core (Limit Frames)) else None)
@@ -118,13 +149,14 @@ of_test Order test parts =
     of_first Order (due_for_witness test parts.iterations) (due_for_lines (section_logs test parts))
     (of_witness Order test parts.iterations) (of_lines Order (section_logs test parts))
 of_test (Witness n) test parts = of_witness (Witness n) test n
-of_test Verdict test parts = of_profile Verdict (profile_of test) tt
-of_test Show test parts = of_profile Show (profile_of test) tt
-of_test Faithful test parts = of_profile Faithful (profile_of test) tt
+of_test Verdict test parts = of_profile Verdict (profile_of test) (λ _. tt)
+of_test Show test parts = of_profile Show (profile_of test) (λ _. tt)
+of_test Outcomes test parts = of_unread test 1 test.atoms
+of_test Faithful test parts = of_profile Faithful (profile_of test) (λ _. tt)
 of_test (Skew n) test parts = of_none (Skew n)
 of_test (Count job) test parts =
     of_first (Count job) (option_map Core (due_for_atoms (profile_of test))) (due_for_frames test job.options)
-    (of_profile (Count job) (profile_of test) tt)
+    (of_profile (Count job) (profile_of test) (λ _. tt))
     (of_frames (Count job) (nat_lt 4294967296 (frame_count_of test job.options)) tt)
 of_test (Replay job) test parts =
     of_count (Replay job) (nat_lt 1000000 (most_events_of test job.options.iterations))
@@ -154,6 +186,19 @@ of_parts command (Some parts) s due = of_parts_by command parts (nat_lt 65536 (l
 pub of_input : (command : Command) (input : List ℕ) (s : ToolStatus) → IsDue command input (Some s)
     → IsOfInput command s
 of_input command input s due = of_parts command (parts_of command input) s due
+
+-- ---- limits
+
+-- no status of the first program is a limit of a list
+pub core_is_no_stop : (command : Command) (test : LitmusTest) (status : Status) → StopsAt command test (Core status) → ⊥
+core_is_no_stop Outcomes test status stops = stops
+core_is_no_stop _ test status stops = stops
+
+-- only a list of outcomes stops at a limit
+pub stop_is_of_outcomes : (command : Command) (test : LitmusTest) (status : ToolStatus) → StopsAt command test status
+    → command ≡ Outcomes
+stop_is_of_outcomes Outcomes test status stops = refl
+stop_is_of_outcomes _ test status stops = absurd stops
 
 -- ---- what is due for the parts of an input is due for the input
 

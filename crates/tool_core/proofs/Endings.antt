@@ -7,24 +7,25 @@ use Rattle.litmus_reader.specs.Answer.{Accepted}
 use Rattle.litmus_reader.specs.Reading.{Reads}
 use Rattle.litmus_reader.proofs.ReadingLaws.{same_test}
 use Rattle.report_text.specs.declared.status.Over.TheVariants.{Frames}
-use Rattle.report_text.specs.declared.status.Status.TheVariants.{OutsideProfile, Limit}
+use Rattle.report_text.specs.declared.status.Status.{Status}
+use Rattle.report_text.specs.declared.status.Status.TheVariants.{Whole, Memory, Usage, ReadFault, WriteFault, OutsideProfile, Limit}
 use Rattle.run_text.specs.Sections.{Split}
 use Rattle.perp_base.specs.View.{View}
 use Rattle.program_edge.specs.Field.{IsStill, SomeRunFits}
 use Rattle.program_edge.proofs.Bytes.{given_bytes}
 use Rattle.program_edge.proofs.Endings.{HasText, IsLawful, is_of_input, other_status_of, still_of, answer_of, taken_of, whole_of as text_whole, part_of as text_part}
 use Rattle.tool_core.specs.Words.{command_of}
-use Rattle.tool_core.specs.Due.{IsDue, Took, all_litmus, call_of}
+use Rattle.tool_core.specs.Due.{IsDue, StopsAt, StopsOn, Took, all_litmus, call_of}
 use Rattle.perp_base.specs.declared.options.Options.{Options}
 use Rattle.perp_base.specs.declared.schedule.Schedule.{Schedule}
 use Rattle.tool_core.specs.Counting.{RanAs, WasMade, run_options}
 use Rattle.tool_core.specs.Texts.{options_of}
 use Rattle.tool_core.specs.Top.{Answers, Ended, IsAfterReading, IsAnswer, IsField, IsStillCommand, IsText, RanFor, ReadsToEnd, RunFits, SuitsCommand, Told, WritesPart, WritesWhole, options_run}
 use Rattle.tool_core.specs.declared.words.Command.{Command}
-use Rattle.tool_core.specs.declared.words.Command.TheVariants.{Judge, Order, Witness, Verdict, Show, Faithful, Skew, Count, Replay}
+use Rattle.tool_core.specs.declared.words.Command.TheVariants.{Judge, Order, Witness, Verdict, Show, Outcomes, Faithful, Skew, Count, Replay}
 use Rattle.tool_core.specs.declared.status.ToolStatus.{ToolStatus}
-use Rattle.tool_core.specs.declared.status.ToolStatus.TheVariants.{Core, TooLong}
-use Rattle.tool_core.proofs.Dues.{IsOfInput, due_for_text, of_input, one_due, test_is_due}
+use Rattle.tool_core.specs.declared.status.ToolStatus.TheVariants.{Core, States, Steps, TooLong}
+use Rattle.tool_core.proofs.Dues.{IsOfInput, core_is_no_stop, due_for_text, of_input, one_due, stop_is_of_outcomes, test_is_due}
 
 -- ---- what was told is what was taken
 
@@ -57,6 +58,9 @@ laws words old new done = record {
   long_input = is_of_input Core (λ s. s ≡ TooLong) (λ e. cc) (λ e. cc) (λ e. cc) TooLong refl;
   due_input = λ command input status due. is_of_input Core (IsOfInput command) (λ a. a) (λ a. a) (λ a. a) status
       (of_input command input status due);
+  stop_input = λ command input status stop.
+      is_of_input Core (StopsAt command stop.test) (core_is_no_stop command stop.test Whole)
+      (core_is_no_stop command stop.test WriteFault) (core_is_no_stop command stop.test Usage) status stop.stops;
   due_one = one_due;
   accepted = λ text a. record {
     command = a.command;
@@ -73,11 +77,26 @@ laws words old new done = record {
 
 -- ---- refusals that are not each command's
 
--- a refusal that is no text was due for what was taken
-of_taken : (command : Command) (input : List ℕ) (status is : ToolStatus) → status ≡ is → (HasText Core is → ⊥)
-    → HasText Core status ⊎ IsDue command input (Some status) → IsOfInput command is
+-- a refusal with a status of the first program that is no text was due for what was taken
+of_taken : (command : Command) (input : List ℕ) (status : ToolStatus) (is : Status) → status ≡ Core is
+    → (HasText Core (Core is) → ⊥)
+    → HasText Core status ⊎ (IsDue command input (Some status) ⊎ StopsOn command input status)
+    → IsOfInput command (Core is)
 of_taken command input status is e none (inl has) = absurd (none (subst (HasText Core) e has))
-of_taken command input status is e none (inr due) = subst (IsOfInput command) e (of_input command input status due)
+of_taken command input status is e none (inr (inl due)) =
+    subst (IsOfInput command) e (of_input command input status due)
+of_taken command input status is e none (inr (inr stop)) =
+    absurd (core_is_no_stop command stop.test is (subst (StopsAt command stop.test) e stop.stops))
+
+-- a status that is due for no input is a limit that a list of outcomes met
+of_limit : (command : Command) (input : List ℕ) (status is : ToolStatus) → status ≡ is → (HasText Core is → ⊥)
+    → (IsOfInput command is → ⊥)
+    → HasText Core status ⊎ (IsDue command input (Some status) ⊎ StopsOn command input status) → command ≡ Outcomes
+of_limit command input status is e none other (inl has) = absurd (none (subst (HasText Core) e has))
+of_limit command input status is e none other (inr (inl due)) =
+    absurd (other (subst (IsOfInput command) e (of_input command input status due)))
+of_limit command input status is e none other (inr (inr stop)) =
+    stop_is_of_outcomes command stop.test status stop.stops
 
 -- ---- what is left after
 
@@ -94,6 +113,7 @@ still_text Order test parts done text still right = right.0
 still_text (Witness n) test parts done text still right = absurd (cc)
 still_text Verdict test parts done text still right = right.0
 still_text Show test parts done text still right = right.0
+still_text Outcomes test parts done text still right = right.0
 still_text Faithful test parts done text still right = right.0
 still_text (Skew n) test parts done text still right = absurd (cc)
 still_text (Count job) test parts done text still right = still_made job.order test job.options done still right.made
@@ -139,6 +159,7 @@ fits_by (Witness n) options input text read done e reads a =
     (whole_test input a.parts a.test read a.accepts.parts_are a.accepts.reading reads) a.right.some_run
 fits_by Verdict options input text read done e reads a = absurd (cc)
 fits_by Show options input text read done e reads a = absurd (cc)
+fits_by Outcomes options input text read done e reads a = absurd (cc)
 fits_by Faithful options input text read done e reads a = absurd (cc)
 fits_by (Skew n) options input text read done e reads a =
     fits_for (options_of n) options a.test read done e
@@ -155,18 +176,28 @@ module _ {words : List (List ℕ)} {old new : View} {done : Closed} {out_old out
   here : IsLawful (call_of words old new) (Answers words old new done) (Told words old)
   here = laws words old new done
 
+  limit_of : (is : ToolStatus) → (Core Whole ≡ is → ⊥) → (Core WriteFault ≡ is → ⊥) → (Core Usage ≡ is → ⊥)
+      → (Core Memory ≡ is → ⊥) → (Core ReadFault ≡ is → ⊥) → (TooLong ≡ is → ⊥)
+      → ((command : Command) → IsOfInput command is → ⊥) → status ≡ is → command_of words ≡ Some Outcomes
+  limit_of is whole part usage memory fault long other e =
+      let input = is_of_input Core (λ s. s ≡ is) whole part usage is refl in
+      let t = taken_of here (λ s. s ≡ is) memory usage fault long status ended e in
+      t.2.command_is ∙ ap Some (of_limit t.0 t.1 status is e input.text (other t.0) t.3)
+
   pub suits_of : SuitsCommand words status
   suits_of = record {
     outside_profile = λ atom kind e.
         let is = Core (OutsideProfile atom kind) in
         let input = is_of_input Core (λ s. s ≡ is) (λ e. cc) (λ e. cc) (λ e. cc) is refl in
         let t = taken_of here (λ s. s ≡ is) (λ e. cc) (λ e. cc) (λ e. cc) (λ e. cc) status ended e in
-        (t.0, t.2.command_is, of_taken t.0 t.1 status is e input.text t.3);
+        (t.0, t.2.command_is, of_taken t.0 t.1 status (OutsideProfile atom kind) e input.text t.3);
     frames = λ e.
         let is = Core (Limit Frames) in
         let input = is_of_input Core (λ s. s ≡ is) (λ e. cc) (λ e. cc) (λ e. cc) is refl in
         let t = taken_of here (λ s. s ≡ is) (λ e. cc) (λ e. cc) (λ e. cc) (λ e. cc) status ended e in
-        (t.0, t.2.command_is, of_taken t.0 t.1 status is e input.text t.3);
+        (t.0, t.2.command_is, of_taken t.0 t.1 status (Limit Frames) e input.text t.3);
+    states = λ e. limit_of States (λ e. cc) (λ e. cc) (λ e. cc) (λ e. cc) (λ e. cc) (λ e. cc) (λ command is. is) e;
+    steps = λ e. limit_of Steps (λ e. cc) (λ e. cc) (λ e. cc) (λ e. cc) (λ e. cc) (λ e. cc) (λ command is. is) e;
   }
 
   pub ends_of : ReadsToEnd new status

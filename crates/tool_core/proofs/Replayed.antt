@@ -17,7 +17,7 @@ use Rattle.tool_core.specs.Laws.{CallOf, IsJudgedSo, IsLegalReplay, ReplaysAreLe
 use Rattle.tool_core.specs.Replaying.{IsReplayText}
 use Rattle.tool_core.specs.Words.{alone, command_of, named_in}
 use Rattle.tool_core.specs.declared.words.Command.{Command}
-use Rattle.tool_core.specs.declared.words.Command.TheVariants.{Judge, Order, Witness, Verdict, Show, Faithful, Skew, Count, Replay}
+use Rattle.tool_core.specs.declared.words.Command.TheVariants.{Judge, Order, Witness, Verdict, Show, Outcomes, Faithful, Skew, Count, Replay}
 use Rattle.tool_core.proofs.Endings.{whole_test}
 use Rattle.tool_core.proofs.Repeats.{answer_in}
 use Rattle.tool_core.proofs.RunJudged.{legal_said}
@@ -58,13 +58,15 @@ module _ (job : AskedReplay) where
       (mapped_is_other Witness (iterations_in rest) (λ n e. cc)) e2 in
       let e4 = past (bytes_eq name (codes "verdict")) (alone Verdict rest) _ (alone_is_other Verdict rest (λ e. cc)) e3 in
       let e5 = past (bytes_eq name (codes "show")) (alone Show rest) _ (alone_is_other Show rest (λ e. cc)) e4 in
-      let e6 = past (bytes_eq name (codes "faithful")) (alone Faithful rest) _
-      (alone_is_other Faithful rest (λ e. cc)) e5 in
-      let e7 = past (bytes_eq name (codes "skew")) (option_map Skew (iterations_in rest)) _
-      (mapped_is_other Skew (iterations_in rest) (λ n e. cc)) e6 in
-      let e8 = past (bytes_eq name (codes "count")) (option_map Count (count_in rest)) _
-      (mapped_is_other Count (count_in rest) (λ asked e. cc)) e7 in
-      named_last (bytes_eq name (codes "replay")) (replay_in rest) e8
+      let e6 = past (bytes_eq name (codes "outcomes")) (alone Outcomes rest) _
+      (alone_is_other Outcomes rest (λ e. cc)) e5 in
+      let e7 = past (bytes_eq name (codes "faithful")) (alone Faithful rest) _
+      (alone_is_other Faithful rest (λ e. cc)) e6 in
+      let e8 = past (bytes_eq name (codes "skew")) (option_map Skew (iterations_in rest)) _
+      (mapped_is_other Skew (iterations_in rest) (λ n e. cc)) e7 in
+      let e9 = past (bytes_eq name (codes "count")) (option_map Count (count_in rest)) _
+      (mapped_is_other Count (count_in rest) (λ asked e. cc)) e8 in
+      named_last (bytes_eq name (codes "replay")) (replay_in rest) e9
 
   -- the words after the name
   pub record HasWords (words : List (List ℕ)) : Type 0 where

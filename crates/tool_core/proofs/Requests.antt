@@ -12,13 +12,13 @@ use Rattle.program_edge.specs.declared.request.Request.{Request}
 use Rattle.program_edge.specs.declared.request.Request.TheVariants.{Misused, NoMemory, Alone, Given}
 use Rattle.program_edge.proofs.Requests.{IsTaking, refused_of, took_of}
 use Rattle.tool_core.specs.Answering.{AnswerFits, IsAnswerTo, IsLeftBy, IsUsageOf, MovesInRuns, TextOrRefusal}
-use Rattle.tool_core.specs.Due.{IsDue, Refused, call_of, tool_program}
+use Rattle.tool_core.specs.Due.{IsDue, Refused, StopsAt, call_of, tool_program}
 use Rattle.tool_core.specs.Top.{Answers, IsAnswer, IsStillCommand, Leaves, Ran, options_run}
 use Rattle.perp_base.specs.declared.options.Options.{Options}
 use Rattle.tool_core.specs.declared.words.Command.{Command}
 use Rattle.tool_core.specs.declared.status.ToolStatus.{ToolStatus}
 use Rattle.tool_core.specs.declared.status.ToolStatus.TheVariants.{Core}
-use Rattle.tool_core.proofs.Dues.{IsOfInput, of_input}
+use Rattle.tool_core.proofs.Dues.{IsOfInput, core_is_no_stop, of_input}
 use Rattle.tool_core.proofs.Endings.{fits_by, none_is_due, still_ran, still_text}
 
 -- ---- the words
@@ -26,7 +26,10 @@ use Rattle.tool_core.proofs.Endings.{fits_by, none_is_due, still_ran, still_text
 text_is_no_usage : (command : Command) (input : List ℕ) (status : ToolStatus)
     → IsRefusalOfText tool_program command input status → status ≡ Core Usage → ⊥
 text_is_no_usage command input status (inl memory) e = cc
-text_is_no_usage command input status (inr due) e = subst (IsOfInput command) e (of_input command input status due)
+text_is_no_usage command input status (inr (inl due)) e =
+    subst (IsOfInput command) e (of_input command input status due)
+text_is_no_usage command input status (inr (inr limit)) e =
+    core_is_no_stop command limit.1.test Usage (subst (StopsAt command limit.1.test) e limit.1.stops)
 
 reading_is_no_usage : (why : ReadError) → status_of_reading tool_program why ≡ Core Usage → ⊥
 reading_is_no_usage read.Fault e = cc

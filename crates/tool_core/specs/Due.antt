@@ -19,11 +19,13 @@ use Rattle.perp_base.specs.View.{View}
 use Rattle.program_edge.specs.Ending.{Call, Refused as RefusedCall}
 use Rattle.program_edge.specs.Form.{due_for_atoms, due_for_form}
 use Rattle.program_edge.specs.Request.{Program}
+use Rattle.outcome_states.specs.Registers.{first_unread}
 use Rattle.perp_base.specs.declared.options.Options.{Options}
 use Rattle.tool_core.specs.Counting.{frame_count_of}
+use Rattle.tool_core.specs.Outcomes.{StopsOutcomes, status_of}
 use Rattle.tool_core.specs.Words.{command_of}
 use Rattle.tool_core.specs.declared.words.Command.{Command}
-use Rattle.tool_core.specs.declared.words.Command.TheVariants.{Judge, Order, Witness, Verdict, Show, Faithful, Skew, Count, Replay}
+use Rattle.tool_core.specs.declared.words.Command.TheVariants.{Judge, Order, Witness, Verdict, Show, Outcomes, Faithful, Skew, Count, Replay}
 use Rattle.tool_core.specs.declared.status.ToolStatus.{ToolStatus}
 use Rattle.tool_core.specs.declared.status.ToolStatus.TheVariants.{Core, NoSection, BadLine, TooLong, Events, SeveralWriters}
 
@@ -36,6 +38,7 @@ heading_of Order = Some (codes "%logs")
 heading_of (Witness n) = None
 heading_of Verdict = None
 heading_of Show = None
+heading_of Outcomes = None
 heading_of Faithful = None
 heading_of (Skew n) = None
 heading_of (Count job) = None
@@ -94,6 +97,10 @@ abbrev pub due_for_count : LitmusTest → Options → Option ToolStatus
 due_for_count test options =
     first_due (option_map Core (due_for_atoms (profile_of test))) (due_for_frames test options)
 
+-- the first atom whose register holds no read at the end, or names no thread
+abbrev pub due_for_registers : LitmusTest → Option ToolStatus
+due_for_registers test = option_map status_of (first_unread test)
+
 -- what a command asks of a test and its section
 abbrev pub due_for_test : Command → LitmusTest → Split → Option ToolStatus
 due_for_test Judge test parts = due_for_lines (events_of parts.line parts.lines)
@@ -102,6 +109,7 @@ due_for_test Order test parts =
 due_for_test (Witness n) test parts = due_for_witness test n
 due_for_test Verdict test parts = option_map Core (due_for_atoms (profile_of test))
 due_for_test Show test parts = option_map Core (due_for_atoms (profile_of test))
+due_for_test Outcomes test parts = due_for_registers test
 due_for_test Faithful test parts = option_map Core (due_for_atoms (profile_of test))
 due_for_test (Skew n) test parts = None
 due_for_test (Count job) test parts = due_for_count test job.options
@@ -132,6 +140,21 @@ IsDueForParts command (Some parts) due =
 abbrev pub IsDue : Command → List ℕ → Option ToolStatus → Type 0
 IsDue command input due = IsDueForParts command (parts_of command input) due
 
+-- ---- limits that the work on an accepted input meets
+
+-- of the test: only a list of outcomes stops at a limit
+abbrev pub StopsAt : Command → LitmusTest → ToolStatus → Type 0
+StopsAt Outcomes test status = StopsOutcomes test status
+StopsAt _ test status = ⊥
+
+-- of the input, whose litmus part reads as the test
+pub record StopsOn (command : Command) (input : List ℕ) (status : ToolStatus) : Type 0 where
+  pub parts : Split
+  pub test : LitmusTest
+  pub parts_are : parts_of command input ≡ Some parts
+  pub reading : Reads parts.litmus (Accepted test)
+  pub stops : StopsAt command test status
+
 -- ---- refusals of a call
 
 -- the words are this command's, and this is all that the source had left
@@ -145,6 +168,7 @@ abbrev pub call_of : List (List ℕ) → View → View → Call Command ToolStat
 call_of words old new = record {
   took = Took words old new;
   due = IsDue;
+  stops = StopsOn;
   command = command_of words;
   reads = λ _. Unit {0};
   core = Core;
@@ -159,6 +183,7 @@ abbrev pub tool_program : Program Command ToolStatus
 tool_program = record {
   own = λ _. [];
   due = IsDue;
+  stops = StopsOn;
   core = Core;
   long = TooLong;
 }

@@ -11,3 +11,4 @@ pub mod Counters
 pub mod Top
 pub mod Answering
 pub mod Laws
+pub mod Outcomes

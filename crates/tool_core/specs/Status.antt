@@ -2,7 +2,7 @@
 use Rattle.std.specs.Prelude.{ℕ, List, ◌++◌, codes, decimal}
 use Rattle.report_text.specs.Status.{HasKind, line_of, status_number}
 use Rattle.tool_core.specs.declared.status.ToolStatus.{ToolStatus}
-use Rattle.tool_core.specs.declared.status.ToolStatus.TheVariants.{Core, NoSection, BadLine, TooLong, Events, SeveralWriters}
+use Rattle.tool_core.specs.declared.status.ToolStatus.TheVariants.{Core, NoSection, BadLine, TooLong, Events, SeveralWriters, States, Steps}
 
 -- the number with which the program ends
 abbrev pub tool_number : ToolStatus → ℕ
@@ -12,6 +12,8 @@ tool_number (BadLine line) = 10
 tool_number TooLong = 11
 tool_number Events = 12
 tool_number (SeveralWriters location) = 13
+tool_number States = 15
+tool_number Steps = 16
 
 -- a status of the first program has a kind that there is
 abbrev pub HasToolKind : ToolStatus → Type 0
@@ -26,3 +28,5 @@ tool_line (BadLine line) = codes "perple: section line " ++ decimal line ++ code
 tool_line TooLong = codes "perple: limit section 16777216\n"
 tool_line Events = codes "perple: limit events 1000000\n"
 tool_line (SeveralWriters location) = codes "perple: location " ++ decimal location ++ codes " has several writers\n"
+tool_line States = codes "perple: limit states 10000\n"
+tool_line Steps = codes "perple: limit steps 20000\n"

@@ -16,16 +16,17 @@ use Rattle.perp_base.specs.View.{View}
 use Rattle.program_edge.specs.Ending.{Ended as EndedCall, IsOutOfMemory, IsStillOr, IsUsage as IsUsageOf}
 use Rattle.program_edge.specs.Field.{IsStill, SomeRunFits}
 use Rattle.tool_core.specs.Words.{command_of}
-use Rattle.tool_core.specs.Due.{IsDue, Took, call_of, due_for_test, parts_of}
+use Rattle.tool_core.specs.Due.{IsDue, StopsOn, Took, call_of, due_for_test, parts_of}
 use Rattle.tool_core.specs.Texts.{IsJudged, IsOrdered, IsSkewText, IsVerdictText, IsWitnessed, options_of}
 use Rattle.tool_core.specs.Showing.{IsShowingText}
+use Rattle.outcome_states.specs.Outcomes.{IsOutcomesText}
 use Rattle.tool_core.specs.Faithful.{IsFaithText}
 use Rattle.tool_core.specs.Counting.{IsCountText, RanAs, run_options}
 use Rattle.tool_core.specs.Replaying.{IsReplayText}
 use Rattle.tool_core.specs.declared.words.Command.{Command}
-use Rattle.tool_core.specs.declared.words.Command.TheVariants.{Judge, Order, Witness, Verdict, Show, Faithful, Skew, Count, Replay}
+use Rattle.tool_core.specs.declared.words.Command.TheVariants.{Judge, Order, Witness, Verdict, Show, Outcomes, Faithful, Skew, Count, Replay}
 use Rattle.tool_core.specs.declared.status.ToolStatus.{ToolStatus}
-use Rattle.tool_core.specs.declared.status.ToolStatus.TheVariants.{Core, NoSection, BadLine, TooLong, Events, SeveralWriters}
+use Rattle.tool_core.specs.declared.status.ToolStatus.TheVariants.{Core, NoSection, BadLine, TooLong, Events, SeveralWriters, States, Steps}
 
 -- ---- answers
 
@@ -36,6 +37,7 @@ IsText Order test parts done text = IsStill done × IsOrdered test parts text
 IsText (Witness n) test parts done text = IsWitnessed test n done text
 IsText Verdict test parts done text = IsStill done × IsVerdictText test text
 IsText Show test parts done text = IsStill done × IsShowingText test text
+IsText Outcomes test parts done text = IsStill done × IsOutcomesText test text
 IsText Faithful test parts done text = IsStill done × IsFaithText test text
 IsText (Skew n) test parts done text = IsSkewText test n done text
 IsText (Count job) test parts done text = IsCountText test job done text
@@ -48,6 +50,7 @@ options_run Order = None
 options_run (Witness n) = Some (options_of n)
 options_run Verdict = None
 options_run Show = None
+options_run Outcomes = None
 options_run Faithful = None
 options_run (Skew n) = Some (options_of n)
 options_run (Count job) = run_options job.order job.options
@@ -116,12 +119,12 @@ pub record Told (words : List (List ℕ)) (old : View) (command : Command) (inpu
   pub command_is : command_of words ≡ Some command
   pub told : old.bytes ≡ Some input
 
--- Where no refusal is due and nothing fails, only want of memory keeps the answer back.
+-- Where no refusal is due and nothing fails, only want of memory keeps the answer back, or a limit of a list of outcomes.
 abbrev pub Completes : List (List ℕ) → View → View → View → View → ToolStatus → Type 0
 Completes words old new out_old out_new status = (command : Command) (input : List ℕ)
     → Told words old command input → length input ≤ MOST_INPUT → IsDue command input None
     → (Rose old.faults new.faults → ⊥) → (Rose out_old.faults out_new.faults → ⊥)
-    → (status ≡ Core Whole) ⊎ (status ≡ Core Memory)
+    → (status ≡ Core Whole) ⊎ ((status ≡ Core Memory) ⊎ StopsOn command input status)
 
 -- The words are no command exactly where that is answered, and it yields to want of memory.
 abbrev pub IsUsage : List (List ℕ) → ToolStatus → Type 0
@@ -141,17 +144,18 @@ AnswersTooLong words old new status = (command : Command) (input : List ℕ)
     → ((status ≡ TooLong) × (new.bytes ≡ Some (drop 16777217 input)))
     ⊎ ((status ≡ Core Memory) ⊎ ((status ≡ Core ReadFault) × Rose old.faults new.faults))
 
--- the commands that ask for the kind of each atom
-abbrev pub AsksForKinds : Command → Type 0
-AsksForKinds Judge = ⊥
-AsksForKinds Order = ⊥
-AsksForKinds (Witness n) = ⊥
-AsksForKinds Verdict = Unit {0}
-AsksForKinds Show = Unit {0}
-AsksForKinds Faithful = Unit {0}
-AsksForKinds (Skew n) = ⊥
-AsksForKinds (Count job) = Unit {0}
-AsksForKinds (Replay job) = ⊥
+-- the commands that ask for the kind of each atom; a list of outcomes asks for the first two alone
+abbrev pub AsksForKind : Command → ℕ → Type 0
+AsksForKind Judge kind = ⊥
+AsksForKind Order kind = ⊥
+AsksForKind (Witness n) kind = ⊥
+AsksForKind Verdict kind = Unit {0}
+AsksForKind Show kind = Unit {0}
+AsksForKind Outcomes kind = kind ≤ 2
+AsksForKind Faithful kind = Unit {0}
+AsksForKind (Skew n) kind = ⊥
+AsksForKind (Count job) kind = Unit {0}
+AsksForKind (Replay job) kind = ⊥
 
 -- the command that asks for the number of frames
 abbrev pub AsksForFrames : Command → Type 0
@@ -160,18 +164,21 @@ AsksForFrames Order = ⊥
 AsksForFrames (Witness n) = ⊥
 AsksForFrames Verdict = ⊥
 AsksForFrames Show = ⊥
+AsksForFrames Outcomes = ⊥
 AsksForFrames Faithful = ⊥
 AsksForFrames (Skew n) = ⊥
 AsksForFrames (Count job) = Unit {0}
 AsksForFrames (Replay job) = ⊥
 
--- That a test is outside the profile is answered for `verdict`, `show`, `faithful` and `count` alone, and the limit of
--- frames for `count` alone.
+-- That an atom cannot be counted is answered for `verdict`, `show`, `faithful` and `count` alone, and for `outcomes` that
+-- it asks for no read; the limit of frames for `count` alone, and the limits of a list for `outcomes` alone.
 pub record SuitsCommand (words : List (List ℕ)) (status : ToolStatus) : Type 0 where
   pub outside_profile : (atom kind : ℕ) → status ≡ Core (OutsideProfile atom kind)
-      → (command : Command) × (command_of words ≡ Some command) × AsksForKinds command
+      → (command : Command) × (command_of words ≡ Some command) × AsksForKind command kind
   pub frames : status ≡ Core (Limit Frames)
       → (command : Command) × (command_of words ≡ Some command) × AsksForFrames command
+  pub states : status ≡ States → command_of words ≡ Some Outcomes
+  pub steps : status ≡ Steps → command_of words ≡ Some Outcomes
 
 -- the statuses before which the input was read to its end
 abbrev pub IsAfterReading : ToolStatus → Type 0
@@ -188,6 +195,8 @@ IsAfterReading (BadLine line) = Unit {0}
 IsAfterReading TooLong = ⊥
 IsAfterReading Events = Unit {0}
 IsAfterReading (SeveralWriters location) = Unit {0}
+IsAfterReading States = Unit {0}
+IsAfterReading Steps = Unit {0}
 
 -- Where a call goes on after the reading, the input was read to its end.
 abbrev pub ReadsToEnd : View → ToolStatus → Type 0

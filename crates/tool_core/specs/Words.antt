@@ -6,7 +6,7 @@ use Rattle.perp_base.specs.Options.{IsWithinLimits}
 use Rattle.command_words.specs.Job.{IsWithin}
 use Rattle.command_words.specs.Words.{count_in, iterations_in, replay_in}
 use Rattle.tool_core.specs.declared.words.Command.{Command}
-use Rattle.tool_core.specs.declared.words.Command.TheVariants.{Judge, Order, Witness, Verdict, Show, Faithful, Skew, Count, Replay}
+use Rattle.tool_core.specs.declared.words.Command.TheVariants.{Judge, Order, Witness, Verdict, Show, Outcomes, Faithful, Skew, Count, Replay}
 
 -- a command that takes no further word
 abbrev pub alone : Command → List (List ℕ) → Option Command
@@ -22,6 +22,7 @@ named_in name words =
     else if bytes_eq name (codes "witness") then option_map Witness (iterations_in words)
     else if bytes_eq name (codes "verdict") then alone Verdict words
     else if bytes_eq name (codes "show") then alone Show words
+    else if bytes_eq name (codes "outcomes") then alone Outcomes words
     else if bytes_eq name (codes "faithful") then alone Faithful words
     else if bytes_eq name (codes "skew") then option_map Skew (iterations_in words)
     else if bytes_eq name (codes "count") then option_map Count (count_in words)
@@ -39,6 +40,7 @@ IsWithinItsLimits Order = Unit {0}
 IsWithinItsLimits (Witness n) = (1 ≤ n) × (n ≤ MOST_ITERATIONS)
 IsWithinItsLimits Verdict = Unit {0}
 IsWithinItsLimits Show = Unit {0}
+IsWithinItsLimits Outcomes = Unit {0}
 IsWithinItsLimits Faithful = Unit {0}
 IsWithinItsLimits (Skew n) = (1 ≤ n) × (n ≤ MOST_ITERATIONS)
 IsWithinItsLimits (Count job) = IsWithin job.options job.cut

@@ -1,9 +1,9 @@
 //! The answer to a request, before anything is written: a text or a refusal, and the closed field.
-ghost use Rattle.std.specs.Prelude.{◌≡◌, ◌≤◌, ◌⊎◌, length, IfOk, IfErr, Some, string_bytes};
+ghost use Rattle.std.specs.Prelude.{◌≡◌, ◌≤◌, length, IfOk, IfErr, Some, string_bytes};
 ghost use Rattle.perp_base.specs.declared.limits.TheConstants.{MOST_INPUT};
-ghost use Rattle.program_edge.specs.Request.{AnswersDue, HasInputWithin, IsComplete, IsRefusal, status_of_reading};
+ghost use Rattle.program_edge.specs.Request.{AnswersDue, HasInputWithin, IsComplete, IsRefusal, IsRefusalOfText, status_of_reading};
 ghost use Rattle.tool_core.specs.Answering.{AnswerFits, AsksWithin, IsAnswerTo, IsLeftBy, IsUsageOf, MovesInRuns};
-ghost use Rattle.tool_core.specs.Due.{IsDue, tool_program};
+ghost use Rattle.tool_core.specs.Due.{tool_program};
 ghost use Rattle.tool_core.specs.Status.{HasToolKind};
 ghost use Rattle.tool_core.specs.Top.{IsAnswer, IsStillOrRan};
 ghost use Rattle.tool_core.specs.Words.{IsWithinItsLimits};
@@ -33,8 +33,7 @@ fn answer_input<R: Threads + Sync, G: Gate>(
     requires short { length input.now ≤ MOST_INPUT }
     ensures identity { result.done.identity ≡ field }
     ensures ok { IfOk result.text (λ text. IsAnswer command.now input.now result.done (string_bytes text)) }
-    ensures err { IfErr result.text (λ status. (status ≡ ToolStatus.Core Status.Memory)
-        ⊎ IsDue command.now input.now (Some status)) }
+    ensures refused { IfErr result.text (IsRefusalOfText tool_program command.now input.now) }
     ensures done { IfErr result.text (IsStillOrRan command.now input.now result.done) }
     ensures kind { IfErr result.text HasToolKind }
 {

@@ -21,6 +21,7 @@ mod counting;
 mod faithful;
 mod judging;
 mod laws;
+mod listing;
 mod number_text;
 mod ordering;
 mod parts;

@@ -36,6 +36,7 @@ pub fn parts_in<'a>(command: &Command, input: &'a [u8]) -> Option<Section<'a>>
         Command::Witness(_)
         | Command::Verdict
         | Command::Show
+        | Command::Outcomes
         | Command::Faithful
         | Command::Skew(_)
         | Command::Count(_)

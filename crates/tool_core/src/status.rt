@@ -23,6 +23,10 @@ pub enum ToolStatus {
     Events,
     /// The stores of this location, the first such, stand in several threads.
     SeveralWriters { location: u32 },
+    /// The test has more outcomes than are listed.
+    States,
+    /// The decision of one of the outcomes took all its steps.
+    Steps,
 }
 
 /// So that `?` answers want of memory.
@@ -63,6 +67,8 @@ impl ToolStatus {
             ToolStatus::TooLong => 11,
             ToolStatus::Events => 12,
             ToolStatus::SeveralWriters { .. } => 13,
+            ToolStatus::States => 15,
+            ToolStatus::Steps => 16,
         }
     }
 
@@ -80,6 +86,8 @@ impl ToolStatus {
             ToolStatus::SeveralWriters { location } => {
                 Line::of_number("perple: location ", *location, " has several writers\n")
             }
+            ToolStatus::States => Line::of_text("perple: limit states 10000\n"),
+            ToolStatus::Steps => Line::of_text("perple: limit steps 20000\n"),
         }
     }
 }

@@ -7,6 +7,7 @@ ghost use Rattle.perp_base.specs.Causes.{HasCause};
 mod counts;
 mod faiths;
 mod meeting;
+mod outcomes;
 mod replays;
 mod rows;
 mod shown;
@@ -14,6 +15,7 @@ mod shown;
 use super::*;
 use counts::{COUNTS, FAILING_COUNTS, REFUSED, RUNS};
 use faiths::FAITHS;
+use outcomes::{OUTCOMES, REFUSED_OUTCOMES};
 use perp_base::{Calls, Failed, MemSink, MemSource, Source};
 use replays::{LEGAL_REPLAYS, REFUSED_REPLAYS, REPLAYS};
 use rows::ROWS;
@@ -238,6 +240,20 @@ fn faithful_tests_are_told(rt: HostRuntime) -> Result<(), Fail> {
             line.as_bytes(),
             "",
         )?;
+    }
+    Ok(())
+}
+
+#[test]
+fn outcomes_are_listed(rt: HostRuntime) -> Result<(), Fail> {
+    let alloc = rt.alloc();
+    for (text, listed) in OUTCOMES {
+        let input = text.as_bytes();
+        assert_answer(&rt, alloc, "outcomes", input, 0, listed.as_bytes(), "")?;
+    }
+    for (line, text, after, status, err) in REFUSED_OUTCOMES {
+        let input = with_section(alloc, text, after)?;
+        assert_answer(&rt, alloc, line, &input, status, b"", err)?;
     }
     Ok(())
 }

@@ -19,6 +19,8 @@ pub enum Command {
     Verdict,
     /// Show a run in which a conjunction of the condition holds.
     Show,
+    /// List every outcome of the test.
+    Outcomes,
     /// Say whether each frame that is counted is an outcome of the test.
     Faithful,
     /// Run the test so often, and tell how far apart the threads were.
@@ -59,6 +61,7 @@ pub fn read_words(alloc: Global, words: &[String]) -> Result<Command, WordsError
         "witness" => Ok(Command::Witness(read_iterations(alloc, words)?)),
         "verdict" => alone(words, Command::Verdict),
         "show" => alone(words, Command::Show),
+        "outcomes" => alone(words, Command::Outcomes),
         "faithful" => alone(words, Command::Faithful),
         "skew" => Ok(Command::Skew(read_iterations(alloc, words)?)),
         "count" => Ok(Command::Count(read_count(alloc, words)?)),

@@ -4,7 +4,7 @@ ghost use Rattle.std.specs.Str.{IsAscii};
 ghost use Rattle.run_text.specs.Sections.{seen};
 ghost use Rattle.report_text.specs.declared.status.Status.TheVariants.{Memory};
 ghost use Rattle.program_edge.specs.Field.{IsStill};
-ghost use Rattle.tool_core.specs.Due.{due_for_test};
+ghost use Rattle.tool_core.specs.Due.{StopsAt, due_for_test};
 ghost use Rattle.tool_core.specs.Status.{HasToolKind};
 ghost use Rattle.tool_core.specs.Top.{IsText, RanFor};
 ghost use Rattle.tool_core.specs.Words.{IsWithinItsLimits};
@@ -13,6 +13,7 @@ ghost use Rattle.perp_base.specs.declared.limits.TheConstants.{MOST_ITERATIONS};
 use crate::counting::count_on;
 use crate::faithful::faithful_on;
 use crate::judging::judge_section;
+use crate::listing::outcomes_on;
 use crate::ordering::order_section;
 use crate::replaying::replay_on;
 use crate::showing::show_on;
@@ -49,7 +50,8 @@ pub fn work<R: Threads + Sync, G: Gate>(
     ensures right { IfOk result.text (λ text. IsText command.now test (seen section.now) result.done
         (string_bytes text)) }
     ensures err { IfErr result.text (λ status. (status ≡ ToolStatus.Core Memory)
-        ⊎ (due_for_test command.now test (seen section.now) ≡ Some status)) }
+        ⊎ ((due_for_test command.now test (seen section.now) ≡ Some status)
+        ⊎ ((due_for_test command.now test (seen section.now) ≡ None) × StopsAt command.now test status))) }
     ensures done { IfErr result.text (λ status. IsStill result.done
         ⊎ ((status ≡ ToolStatus.Core Memory) × (due_for_test command.now test (seen section.now) ≡ None) × RanFor command.now test result.done)) }
     ensures kind { IfErr result.text HasToolKind }
@@ -58,6 +60,7 @@ pub fn work<R: Threads + Sync, G: Gate>(
         Command::Judge => Answered::still(judge_section(alloc, &test, section), field),
         Command::Verdict => Answered::still(verdict_on(alloc, test), field),
         Command::Show => Answered::still(show_on(alloc, test), field),
+        Command::Outcomes => Answered::still(outcomes_on(alloc, &test), field),
         Command::Faithful => Answered::still(faithful_on(alloc, test), field),
         Command::Skew(n) => skew_run(rt, alloc, &test, *n, field, gate),
         Command::Witness(n) => witness_run(rt, alloc, &test, *n, field, gate),
