@@ -1,7 +1,7 @@
 -- Written runs of the x86-TSO machine (Sewell, Sarkar, Owens, Zappa Nardelli and Myreen, CACM 2010), over what stores
 -- write: the values k*n + a of perpetual loops (PerpLE: Melissaris, Markakis, Shaw and Martonosi, MICRO 2020), or the
 -- numbers of the litmus text. The machine is that of `tso_machine`, with these values in place of its own.
-use Rattle.std.specs.Prelude.{ℕ, List, [], ◌∷◌, ◌++◌, drop}
+use Rattle.std.specs.Prelude.{◌≡◌, ℕ, ◌<◌, All, Some, List, [], ◌∷◌, ◌++◌, drop, length, slice_get}
 use Rattle.std.specs.Option.{option_map_or}
 use Rattle.x86_subset.specs.Test.{LitmusTest}
 use Rattle.x86_subset.specs.declared.instr.Instr.{Instr}
@@ -9,7 +9,8 @@ use Rattle.x86_subset.specs.declared.instr.Instr.TheVariants.{Store, Load, Fence
 use Rattle.seq_conv.specs.Numbers.{AreOf, value_at}
 use Rattle.seq_conv.specs.Sequence.{Site, action_at, site_location, value_of}
 use Rattle.tso_machine.specs.Event.{Event, Kind, Push, Drain, Read, Fenced, Exchanged, event_location, site_of}
-use Rattle.tso_machine.specs.Machine.{State, Write, initial, updated}
+use Rattle.tso_machine.specs.Machine.{State, Write, initial, readable, updated}
+use Rattle.tso_machine.specs.Part.{Performs, part_of}
 use Rattle.run_judge.specs.Judgement.{judgement_from}
 use Rattle.run_judge.specs.declared.judgement.Judgement.{Judgement}
 use Rattle.run_judge.specs.declared.values.Values.{Values}
@@ -66,6 +67,26 @@ all_after_by writes test s (e ∷ es) = all_after_by writes test (after_by write
 
 abbrev pub reached_by : Writes → LitmusTest → List Event → State
 reached_by writes test events = all_after_by writes test initial events
+
+-- what an event of this kind needs of the state before it
+abbrev pub NeedsBy : Writes → Kind → LitmusTest → State → Event → Type 0
+NeedsBy writes Push test s e = Unit {0}
+NeedsBy writes Drain test s e = slice_get (s.buffer e.thread) 0 ≡ Some (write_by writes test e)
+NeedsBy writes (Read v) test s e = v ≡ readable s e.thread (event_location test e)
+NeedsBy writes Fenced test s e = s.buffer e.thread ≡ []
+NeedsBy writes (Exchanged v) test s e = (s.buffer e.thread ≡ []) × (v ≡ s.memory (event_location test e))
+
+-- the events lead, step by step, from the state
+abbrev pub StepsBy : Writes → LitmusTest → State → List Event → Type 0
+StepsBy writes test s [] = Unit {0}
+StepsBy writes test s (e ∷ es) = NeedsBy writes e.kind test s e × StepsBy writes test (after_by writes test s e) es
+
+-- a legal run of the test's threads alone, whose stores write so, in which each performs its body n times
+pub record IsRunWith (writes : Writes) (test : LitmusTest) (n : ℕ) (run : List Event) : Type 0 where
+  pub steps : StepsBy writes test initial run
+  pub drained : (t : ℕ) → (reached_by writes test run).buffer t ≡ []
+  pub performs : (t : ℕ) → t < length test.bodies → Performs test n t (part_of t run)
+  pub threads : All (λ e. e.thread < length test.bodies) run
 
 -- The judgement of a run whose stores write so: as `judgement_of`, which is that of the stores of perpetual loops.
 abbrev pub judgement_with : Writes → LitmusTest → ℕ → List Event → Judgement
