@@ -143,7 +143,7 @@ own_step writes test s e t (Read v) h = h
 own_step writes test s e t Fenced h = h
 own_step writes test s e t (Exchanged v) h = h
 
-own_after : (writes : Writes) (test : LitmusTest) (s : State) (es : List Event) (t : ℕ) → Each (IsOwn writes test t) (s.buffer t)
+pub own_after : (writes : Writes) (test : LitmusTest) (s : State) (es : List Event) (t : ℕ) → Each (IsOwn writes test t) (s.buffer t)
     → Each (IsOwn writes test t) ((all_after_by writes test s es).buffer t)
 own_after writes test s [] t h = h
 own_after writes test s (e ∷ es) t h = own_after writes test (after_by writes test s e) es t (own_step writes test s e t e.kind h)
