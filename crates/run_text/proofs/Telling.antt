@@ -21,7 +21,7 @@ Told = Result (List RunEvent) ℕ
 abbrev number : ℕ → Option ℕ → Option ℕ
 number line place = option_map (λ k. line + k) place
 
-one_later : (tells : List (List ℕ) → Option RunEvent) (line : ℕ) (place : Option ℕ) → number line (option_map suc place) ≡ number (line + 1) place
+one_later : (line : ℕ) (place : Option ℕ) → number line (option_map suc place) ≡ number (line + 1) place
 one_later line None = refl
 one_later line (Some k) = let same : line + suc k ≡ line + 1 + k = omega arith in ap Some same
 

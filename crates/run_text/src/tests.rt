@@ -132,7 +132,8 @@ fn lines_without_the_form_of_an_event(rt: HostRuntime) -> Result<(), Fail> {
 #[test]
 fn events_of_an_execution(rt: HostRuntime) -> Result<(), Fail> {
     let alloc = rt.alloc();
-    let text = b"X86 SB\n%execution 2\n %execution 01\nP0 0 push\n \nP0\t1 read 0\r\nP001 1 exchange 7\nP0 0 drain";
+    let text =
+        b"X86 SB\n%execution 2\n %execution 01\nP0 0 push\n \nP0\t1 read 0\r\nP001 1 exchange 7\nP0 0 drain";
     let Ok(events) = told_of_execution(alloc, text)? else {
         return Err("each line tells one".into());
     };
