@@ -31,7 +31,8 @@ written_from test run r =
             allowed = allows_all test initial start run alike_start r.steps;
             drained = λ t. a.buffer t ∙ ap (map waiting_of) (r.drained t);
             in_order =
-                λ t. does_all test t run (r.performs t) (recursion_from_All (λ (e : Event). e.thread < length test.bodies)
+                λ t. does_all test t run (r.performs t)
+                (recursion_from_All (λ (e : Event). e.thread < length test.bodies)
                 run r.threads);
           };
       in_order = r.performs;
@@ -70,12 +71,14 @@ record Taken (test : LitmusTest) (s : RunState) (e : Event) (k : Kind) : Type 0 
   takes : Takes k (s.buffer e.thread) e
   oldest : k ≡ Drain → slice_get (s.buffer e.thread) 0 ≡ Some (write_by (text_value test) test e)
 
-drain_taken : (test : LitmusTest) (s : RunState) (e : Event) → Each (IsOwn (text_value test) test e.thread) (s.buffer e.thread)
+drain_taken : (test : LitmusTest) (s : RunState) (e : Event) → Each (IsOwn (text_value test) test e.thread)
+    (s.buffer e.thread)
     → ((w : Write) × (slice_get (s.buffer e.thread) 0 ≡ Some w) × (waits_for e.thread w ≡ origin_of e))
     → Taken test s e Drain
 drain_taken test s e own w = record {
   takes = w;
-  oldest = λ k. w.1 ∙ ap (λ z. Some z) (told_by test e w.0 (first_own test e.thread (s.buffer e.thread) w.0 own w.1) w.2);
+  oldest = λ k. w.1 ∙ ap (λ z. Some z) (told_by test e w.0 (first_own test e.thread
+      (s.buffer e.thread) w.0 own w.1) w.2);
 }
 
 taken_as : (test : LitmusTest) (s : RunState) (l : State) (e : Event) (es : List Event) (k : Kind) → e.kind ≡ k

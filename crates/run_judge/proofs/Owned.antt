@@ -110,14 +110,16 @@ other_buffer_by writes test s e t _ h = refl
 
 -- a buffered write is that of its thread at its place and iteration
 abbrev pub IsOwn : Writes → LitmusTest → ℕ → Write → Type 0
-IsOwn writes test t w = w ≡ write_by writes test (record { thread = t; iteration = w.iteration; place = w.place; kind = Push })
+IsOwn writes test t w = w ≡ write_by writes test (record { thread = t; iteration = w.iteration; place = w.place; kind
+    = Push })
 
 each_drop : (P : Write → Type 0) (ws : List Write) → Each P ws → Each P (drop 1 ws)
 each_drop P [] h = tt
 each_drop P (w ∷ ws) h = h.1
 
 own_push : (writes : Writes) (test : LitmusTest) (s : State) (e : Event) (t : ℕ) (b : Bool) → (e.thread == t) ≡ b
-    → Each (IsOwn writes test t) (s.buffer t) → Each (IsOwn writes test t) (cond b (s.buffer e.thread ++ write_by writes test e ∷ [])
+    → Each (IsOwn writes test t) (s.buffer t) → Each (IsOwn writes test t) (cond b
+    (s.buffer e.thread ++ write_by writes test e ∷ [])
     (s.buffer t))
 own_push writes test s e t false h k = k
 own_push writes test s e t true h k =
@@ -125,17 +127,20 @@ own_push writes test s e t true h k =
     let P : ℕ → Type 0 = λ u. Each (IsOwn writes test u) (s.buffer u)
     → Each (IsOwn writes test u) (s.buffer e.thread ++ write_by writes test e ∷ []) in
     let own : IsOwn writes test e.thread (write_by writes test e) = refl in
-    subst P same (λ l. each_append (IsOwn writes test e.thread) (s.buffer e.thread) (write_by writes test e ∷ []) l (own, tt)) k
+    subst P same (λ l. each_append (IsOwn writes test e.thread) (s.buffer e.thread) (write_by writes test e ∷ []) l
+        (own, tt)) k
 
 own_drain : (writes : Writes) (test : LitmusTest) (s : State) (e : Event) (t : ℕ) (b : Bool) → (e.thread == t) ≡ b
-    → Each (IsOwn writes test t) (s.buffer t) → Each (IsOwn writes test t) (cond b (drop 1 (s.buffer e.thread)) (s.buffer t))
+    → Each (IsOwn writes test t) (s.buffer t) → Each (IsOwn writes test t) (cond b (drop 1 (s.buffer e.thread))
+    (s.buffer t))
 own_drain writes test s e t false h k = k
 own_drain writes test s e t true h k =
     let same : e.thread ≡ t = eqb-true e.thread t h in
     let P : ℕ → Type 0 = λ u. Each (IsOwn writes test t) (drop 1 (s.buffer u)) in
     subst P (sym same) (each_drop (IsOwn writes test t) (s.buffer t) k)
 
-own_step : (writes : Writes) (test : LitmusTest) (s : State) (e : Event) (t : ℕ) (k : Kind) → Each (IsOwn writes test t) (s.buffer t)
+own_step : (writes : Writes) (test : LitmusTest) (s : State) (e : Event) (t : ℕ) (k : Kind)
+    → Each (IsOwn writes test t) (s.buffer t)
     → Each (IsOwn writes test t) ((after_by_as writes k test s e).buffer t)
 own_step writes test s e t Push h = own_push writes test s e t (e.thread == t) refl h
 own_step writes test s e t Drain h = own_drain writes test s e t (e.thread == t) refl h
@@ -143,10 +148,12 @@ own_step writes test s e t (Read v) h = h
 own_step writes test s e t Fenced h = h
 own_step writes test s e t (Exchanged v) h = h
 
-pub own_after : (writes : Writes) (test : LitmusTest) (s : State) (es : List Event) (t : ℕ) → Each (IsOwn writes test t) (s.buffer t)
+pub own_after : (writes : Writes) (test : LitmusTest) (s : State) (es : List Event) (t : ℕ)
+    → Each (IsOwn writes test t) (s.buffer t)
     → Each (IsOwn writes test t) ((all_after_by writes test s es).buffer t)
 own_after writes test s [] t h = h
-own_after writes test s (e ∷ es) t h = own_after writes test (after_by writes test s e) es t (own_step writes test s e t e.kind h)
+own_after writes test s (e ∷ es) t h = own_after writes test (after_by writes test s e) es t
+    (own_step writes test s e t e.kind h)
 
 -- whatever the events are, each write that waits is that of its thread
 pub own_writes_by : (writes : Writes) (test : LitmusTest) (before : List Event) (t : ℕ)
@@ -171,7 +178,8 @@ named_push writes test n s e t true h m k =
     let same : e.thread ≡ t = eqb-true e.thread t h in
     let P : ℕ → Type 0 = λ u. Each (IsNamed test n u) (s.buffer u)
     → Each (IsNamed test n u) (s.buffer e.thread ++ write_by writes test e ∷ []) in
-    subst P same (λ l. each_append (IsNamed test n e.thread) (s.buffer e.thread) (write_by writes test e ∷ []) l (m, tt)) k
+    subst P same (λ l. each_append (IsNamed test n e.thread) (s.buffer e.thread) (write_by writes test e ∷ []) l
+        (m, tt)) k
 
 named_drain : (test : LitmusTest) (n : ℕ) (s : State) (e : Event) (t : ℕ) (b : Bool) → (e.thread == t) ≡ b
     → Each (IsNamed test n t) (s.buffer t)
@@ -212,6 +220,7 @@ oldest_tells writes test e (w ∷ ws) own h =
     let p = and_parts (w.iteration == e.iteration) (w.place == e.place) h in
     let i = eqb-true w.iteration e.iteration p.0 in
     let l = eqb-true w.place e.place p.1 in
-    let same : write_by writes test (record { thread = e.thread; iteration = w.iteration; place = w.place; kind = Push })
+    let same : write_by writes test (record { thread = e.thread; iteration = w.iteration; place = w.place; kind = Push
+        })
     ≡ write_by writes test e = rw (i, l) refl in
     ap (λ z. Some z) (own.0 ∙ same)
