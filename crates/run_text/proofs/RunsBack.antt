@@ -72,7 +72,7 @@ section_words n h =
 section_tells : (n : ℕ) → 1 ≤ n → n ≤ 100000 → iterations_of (codes "%events") (words (section_line n)) ≡ Some n
 section_tells n low high =
     let small : n < 2 ^ 64 = omega arith in
-    ap (iterations_of (codes "%events")) (section_words n small) ∙ ap within_iterations (large_back n small)
+    ap (iterations_of (codes "%events")) (section_words n small) ∙ ap (within_iterations 100000) (large_back n small)
     ∙ ap (λ b. cond (b && nat_le n 100000) (Some n) None) (le-leb 1 n low)
     ∙ ap (λ b. cond b (Some n) None) (le-leb n 100000 high)
 

@@ -8,6 +8,8 @@ use Rattle.run_judge.specs.declared.event.RunEvent.{RunEvent}
 use Rattle.run_judge.specs.declared.event.RunKind.{RunKind}
 use Rattle.run_judge.specs.declared.event.RunKind.TheVariants.{Push, Drain, Fence, Read, Exchange}
 use Rattle.run_text.specs.Lines.{has_words, unless_refused}
+use Rattle.run_text.specs.declared.event_lines.Form.{Form}
+use Rattle.run_text.specs.declared.event_lines.Form.TheVariants.{Run, Execution}
 use Rattle.run_text.specs.Numbers.{large_number, small_number, thread_of}
 
 -- a kind without a value, and one with a value
@@ -40,16 +42,38 @@ abbrev pub event_of : List (List ℕ) → Option RunEvent
 event_of (t ∷ n ∷ p ∷ verb ∷ more) = event_by (thread_of t) (small_number n) (small_number p) (kind_of verb more)
 event_of _ = None
 
--- the event that a line tells, if it tells one
-abbrev pub event_in : List ℕ → Option RunEvent
-event_in line = event_of (words line)
+-- the event of a line of an execution, which has no iterations: `P<t> <place>` and a kind
+abbrev pub execution_event_of : List (List ℕ) → Option RunEvent
+execution_event_of (t ∷ p ∷ verb ∷ more) = event_by (thread_of t) (Some 0) (small_number p) (kind_of verb more)
+execution_event_of _ = None
 
--- whether a line has words, and not the form of an event
-abbrev pub lacks_form : List ℕ → Bool
-lacks_form line = has_words line && is_none (event_in line)
+-- what the words of a line of this form tell
+abbrev pub event_by_form : Form → List (List ℕ) → Option RunEvent
+event_by_form Run ws = event_of ws
+event_by_form Execution ws = execution_event_of ws
+
+-- whether a line has words, and not the form of an event, where words tell these events
+abbrev pub lacks_form_of : (List (List ℕ) → Option RunEvent) → List ℕ → Bool
+lacks_form_of tells line = has_words line && is_none (tells (words line))
 
 -- the events of lines, the first of which has this number: lines without words are skipped, and the first that lacks
 -- the form is refused
+abbrev pub events_by : (List (List ℕ) → Option RunEvent) → ℕ → List (List ℕ) → Result (List RunEvent) ℕ
+events_by tells line lines =
+    unless_refused (option_map (λ k. line + k) (position (lacks_form_of tells) lines))
+    (filter_map (λ l. tells (words l)) lines)
+
+-- the event that a line of a run tells, if it tells one
+abbrev pub event_in : List ℕ → Option RunEvent
+event_in line = event_of (words line)
+
+abbrev pub lacks_form : List ℕ → Bool
+lacks_form line = lacks_form_of event_of line
+
+-- the events of the lines of a run
 abbrev pub events_of : ℕ → List (List ℕ) → Result (List RunEvent) ℕ
-events_of line lines =
-    unless_refused (option_map (λ k. line + k) (position lacks_form lines)) (filter_map event_in lines)
+events_of line lines = events_by event_of line lines
+
+-- and those of the lines of an execution
+abbrev pub execution_events_of : ℕ → List (List ℕ) → Result (List RunEvent) ℕ
+execution_events_of line lines = events_by execution_event_of line lines

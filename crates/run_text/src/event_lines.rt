@@ -1,7 +1,7 @@
 //! The lines of a section of events.
 ghost use Rattle.std.specs.Prelude.{◌≡◌, ◌<◌, ◌+◌, ◌^◌, length};
 ghost use Rattle.litmus_reader.specs.Front.{words};
-ghost use Rattle.run_text.specs.Events.{event_in, events_of, kind_of, plain_kind, valued_kind};
+ghost use Rattle.run_text.specs.Events.{event_by_form, event_of, events_by, events_of, execution_event_of, execution_events_of, kind_of, plain_kind, valued_kind};
 ghost use Rattle.run_text.specs.Answered.{IsAnswer};
 ghost use Rattle.run_text.specs.Lines.{lines_of};
 
@@ -53,9 +53,18 @@ fn kind_of(verb: &[u8], rest: &[u8]) -> Option<RunKind>
     }
 }
 
-/// The event that a line tells, if it tells one.
-fn event_in(line: &[u8]) -> Option<RunEvent>
-    ensures { result ≡ event_in line.now }
+/// The form of the lines of a section.
+#[derive(Clone, Copy)]
+enum Form {
+    /// `P<t> <iteration> <place>` and a kind.
+    Run,
+    /// `P<t> <place>` and a kind.
+    Execution,
+}
+
+/// The event of a run that a line tells, if it tells one.
+fn run_event_in(line: &[u8]) -> Option<RunEvent>
+    ensures { result ≡ event_of (words line.now) }
 {
     let thread = next_word(line)?;
     let iteration = next_word(thread.rest)?;
@@ -69,11 +78,37 @@ fn event_in(line: &[u8]) -> Option<RunEvent>
     })
 }
 
-/// The events of the lines of a section. Lines without words are skipped, and the first other line that is no event is
-/// told.
-pub fn events(alloc: Global, section: &Section) -> Result<Vec<RunEvent>, SectionError>
+/// The event of an execution that a line tells, if it tells one.
+fn execution_event_in(line: &[u8]) -> Option<RunEvent>
+    ensures { result ≡ execution_event_of (words line.now) }
+{
+    let thread = next_word(line)?;
+    let place = next_word(thread.rest)?;
+    let verb = next_word(place.rest)?;
+    Some(RunEvent {
+        thread: thread_of(thread.word)?,
+        iteration: 0,
+        place: small_number(place.word)?,
+        kind: kind_of(verb.word, verb.rest)?,
+    })
+}
+
+/// The event that a line of this form tells, if it tells one.
+fn event_in(form: Form, line: &[u8]) -> Option<RunEvent>
+    ensures { result ≡ event_by_form form (words line.now) }
+{
+    match form {
+        Form::Run => run_event_in(line),
+        Form::Execution => execution_event_in(line),
+    }
+}
+
+/// The events of the lines of a section, which are of this form. Lines without words are skipped, and the first other
+/// line that is no event is told.
+fn events_by(alloc: Global, form: Form, section: &Section) -> Result<Vec<RunEvent>, SectionError>
     requires { section.now.line + length section.now.lines.now < 2 ^ 32 }
-    ensures { IsAnswer (λ events. events.items) (events_of section.now.line (lines_of section.now.lines.now)) result }
+    ensures { IsAnswer (λ events. events.items)
+        (events_by (event_by_form form) section.now.line (lines_of section.now.lines.now)) result }
 {
     let text = section.lines;
     let mut events = Vec::new(alloc);
@@ -82,7 +117,7 @@ pub fn events(alloc: Global, section: &Section) -> Result<Vec<RunEvent>, Section
     while at < text.len() {
         let len = line_len(&text[at..]);
         let this = &text[at..at + len];
-        if let Some(event) = event_in(this) {
+        if let Some(event) = event_in(form, this) {
             events.push(event)?;
         } else if has_words(this) {
             return Err(SectionError::Bad { line });
@@ -91,4 +126,23 @@ pub fn events(alloc: Global, section: &Section) -> Result<Vec<RunEvent>, Section
         line += 1;
     }
     Ok(events)
+}
+
+/// The events of the lines of a section of a run. Lines without words are skipped, and the first other line that is no
+/// event is told.
+pub fn events(alloc: Global, section: &Section) -> Result<Vec<RunEvent>, SectionError>
+    requires { section.now.line + length section.now.lines.now < 2 ^ 32 }
+    ensures { IsAnswer (λ events. events.items) (events_of section.now.line (lines_of section.now.lines.now)) result }
+{
+    events_by(alloc, Form::Run, section)
+}
+
+/// The events of the lines of a section of an execution, all of iteration 0. Lines without words are skipped, and the
+/// first other line that is no event is told.
+pub fn execution_events(alloc: Global, section: &Section) -> Result<Vec<RunEvent>, SectionError>
+    requires { section.now.line + length section.now.lines.now < 2 ^ 32 }
+    ensures { IsAnswer (λ events. events.items)
+        (execution_events_of section.now.line (lines_of section.now.lines.now)) result }
+{
+    events_by(alloc, Form::Execution, section)
 }

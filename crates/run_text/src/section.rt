@@ -2,7 +2,7 @@
 ghost use Rattle.std.specs.Prelude.{◌≡◌, ◌<◌, ◌≤◌, ◌+◌, ◌^◌, IfSome, length, option_map};
 ghost use Rattle.litmus_reader.specs.Front.{words};
 ghost use Rattle.run_text.specs.Numbers.{large_number};
-ghost use Rattle.run_text.specs.Sections.{IsWithin, iterations_of, seen, split_of, within_iterations};
+ghost use Rattle.run_text.specs.Sections.{IsWithin, iterations_of, most_of, seen, split_of, within_iterations};
 
 use crate::numbers::number_up_to;
 use crate::words::{line_len, next_word};
@@ -21,13 +21,25 @@ pub struct Section<'a> {
     pub lines: &'a [u8],
 }
 
-/// The number of iterations that a word tells: 1 to 100,000.
-fn iterations_in(word: &[u8]) -> Option<u32>
-    ensures is { result ≡ within_iterations (large_number word.now) }
-    ensures within { IfSome result (λ n. (1 ≤ n) × (n ≤ MOST_ITERATIONS)) }
+/// How many iterations a section of this heading may have: an execution has one.
+fn most_iterations(heading: &[u8]) -> u32
+    ensures is { result ≡ most_of heading.now }
+    ensures within { result ≤ MOST_ITERATIONS }
+{
+    if heading == b"%execution".as_slice() {
+        1
+    } else {
+        MOST_ITERATIONS
+    }
+}
+
+/// The number of iterations that a word tells: 1 to this many.
+fn iterations_in(most: u32, word: &[u8]) -> Option<u32>
+    ensures is { result ≡ within_iterations most (large_number word.now) }
+    ensures within { IfSome result (λ n. (1 ≤ n) × (n ≤ most)) }
 {
     let iterations = number_up_to(u64::MAX, word)?;
-    if 1 <= iterations && iterations <= u64::from(MOST_ITERATIONS) {
+    if 1 <= iterations && iterations <= u64::from(most) {
         Some(iterations as u32)
     } else {
         None
@@ -44,7 +56,7 @@ fn iterations_of(heading: &[u8], line: &[u8]) -> Option<u32>
     if next_word(second.rest).is_some() || first.word != heading {
         return None;
     }
-    iterations_in(second.word)
+    iterations_in(most_iterations(heading), second.word)
 }
 
 /// The section of this heading, if a line begins one.

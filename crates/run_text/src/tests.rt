@@ -34,6 +34,20 @@ fn told(alloc: Global, text: &[u8]) -> Result<Result<Vec<RunEvent>, u32>, Fail>
     }
 }
 
+/// The events of a text's section of an execution, or the line that is refused, or 0 where there is no section.
+fn told_of_execution(alloc: Global, text: &[u8]) -> Result<Result<Vec<RunEvent>, u32>, Fail>
+    requires { length text.now < 2 ^ 31 }
+{
+    let Some(section) = find_section(b"%execution", text) else {
+        return Ok(Err(0));
+    };
+    match execution_events(alloc, &section) {
+        Ok(events) => Ok(Ok(events)),
+        Err(SectionError::Bad { line }) => Ok(Err(line)),
+        Err(SectionError::Memory) => Err("out of memory".into()),
+    }
+}
+
 /// The line at which the logs of a text are refused, or 0 where there are as many as columns.
 fn refused(alloc: Global, text: &[u8]) -> Result<u32, Fail>
     requires { length text.now < 2 ^ 31 }
@@ -108,6 +122,44 @@ fn lines_without_the_form_of_an_event(rt: HostRuntime) -> Result<(), Fail> {
     ];
     for (text, line) in table {
         let Err(refused) = told(alloc, text)? else {
+            return Err("a line has not the form".into());
+        };
+        assert_eq!(rt; refused, line);
+    }
+    Ok(())
+}
+
+#[test]
+fn events_of_an_execution(rt: HostRuntime) -> Result<(), Fail> {
+    let alloc = rt.alloc();
+    let text =
+        b"X86 SB\n%execution 2\n %execution 01\nP0 0 push\n \nP0\t1 read 0\r\nP001 1 exchange 7\nP0 0 drain";
+    let Ok(events) = told_of_execution(alloc, text)? else {
+        return Err("each line tells one".into());
+    };
+    assert_eq!(rt; events.len(), 4);
+    assert!(rt; events[0] == event(0, 0, RunKind::Push));
+    assert!(rt; events[1] == event(0, 1, RunKind::Read { value: 0 }));
+    assert!(rt; events[2] == event(1, 1, RunKind::Exchange { value: 7 }));
+    assert!(rt; events[3] == event(0, 0, RunKind::Drain));
+    Ok(())
+}
+
+#[test]
+fn lines_without_the_form_of_an_execution(rt: HostRuntime) -> Result<(), Fail> {
+    let alloc = rt.alloc();
+    let table: [(&[u8], u32); 5] = [
+        (b"%execution 1\nP0 0 0 push", 2),
+        (b"%execution 1\nP0 0 pull", 2),
+        (b"\n%execution 1\nP0 0 fence\n\nP0 fence", 5),
+        (b"%execution 1\n%execution 1", 2),
+        (
+            b"%execution 2\n%execution 0\n%execution\n%execution 1 1\n%executions 1\n%events 1\n",
+            0,
+        ),
+    ];
+    for (text, line) in table {
+        let Err(refused) = told_of_execution(alloc, text)? else {
             return Err("a line has not the form".into());
         };
         assert_eq!(rt; refused, line);

@@ -1,10 +1,11 @@
 use Rattle.std.proofs.Common.{Global, Vec, ◌+◌, ◌-◌, ◌∙◌, ap, arith, drop, take}
 use Rattle.run_judge.specs.declared.event.RunEvent.{RunEvent}
+use Rattle.run_text.specs.Events.{event_by_form}
 use Rattle.run_text.proofs.Onto.{onto_all}
 use Rattle.run_text.proofs.Sections.{len_within, line_at}
 use Rattle.run_text.proofs.Telling.{events_from, no_form, nothing_told, one_told}
-use Rattle.run_text.proofs.event_lines.events.Goals as goal
-use Rattle.run_text.proofs.event_lines.events.Goals.{in-Some+in_ok-push, in_default+else-has_words}
+use Rattle.run_text.proofs.event_lines.events_by.Goals as goal
+use Rattle.run_text.proofs.event_lines.events_by.Goals.{in-Some+in_ok-push, in_default+else-has_words}
 
 pub returns-then-has_words : goal.returns-then-has_words
 returns-then-has_words c =
@@ -12,7 +13,8 @@ returns-then-has_words c =
     let at = c.loop-at.at in
     let n = c.line_len-len.result in
     let is = line_at text at n c.loop-at-test.true c.line_len-len.ensures in
-    no_form text (take (at + n - at) (drop at text)) at n c.loop-at.line c.loop-at.events.items _ is
+    no_form (event_by_form c.args.form) text (take (at + n - at)
+        (drop at text)) at n c.loop-at.line c.loop-at.events.items _ is
     c.in_default.ensures c.if-has_words.ensures c.loop-at.invariant.left
 
 pub loop-at-preserved : goal.loop-at-preserved
@@ -31,12 +33,17 @@ loop-at-preserved c =
       line = omega arith;
       left = elim c.match-event_in.branch [
         | in-Some+in_ok-push w ↦
-            ap (λ (v : Vec RunEvent Global). onto_all v.items (events_from text (line + 1) (at + n))) w.events-is
-            ∙ ap (λ l. onto_all l (events_from text (line + 1) (at + n))) w.in_ok-push.ensures.items
-            ∙ one_told text this at n line es w.in-Some.event _ is w.in-Some.ensures c.loop-at.invariant.left
+            ap (λ (v : Vec RunEvent Global). onto_all v.items (events_from (event_by_form c.args.form) text
+                (line + 1) (at + n))) w.events-is
+            ∙ ap (λ l. onto_all l (events_from (event_by_form c.args.form) text (line + 1)
+                (at + n))) w.in_ok-push.ensures.items
+            ∙ one_told (event_by_form c.args.form) text this at n line es w.in-Some.event _ is w.in-Some.ensures
+                c.loop-at.invariant.left
         | in_default+else-has_words w ↦
-            ap (λ (v : Vec RunEvent Global). onto_all v.items (events_from text (line + 1) (at + n))) w.events-is
-            ∙ nothing_told text this at n line es _ is w.in_default.ensures w.if-has_words.ensures
+            ap (λ (v : Vec RunEvent Global). onto_all v.items (events_from (event_by_form c.args.form) text
+                (line + 1) (at + n))) w.events-is
+            ∙ nothing_told (event_by_form c.args.form) text this at n line es _ is w.in_default.ensures
+                w.if-has_words.ensures
             c.loop-at.invariant.left
       ];
     }

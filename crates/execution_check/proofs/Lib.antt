@@ -1,0 +1,5 @@
+pub mod Alike
+pub mod Queues
+pub mod Doing
+pub mod Law
+pub mod Once
