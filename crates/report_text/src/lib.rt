@@ -22,6 +22,3 @@ pub use line::{Line, refusal_text};
 pub use report_lines::{count_report, report};
 pub use rows::{CountReport, Report};
 pub use status::{Over, Status};
-
-#[cfg(test)]
-mod tests;
