@@ -26,6 +26,3 @@ pub use answer::{Answer, Outcome};
 pub use graph::{Choice, Pair, Side, Tree};
 pub use laws::trees_refute;
 pub use search::decide;
-
-#[cfg(test)]
-mod tests;

@@ -8,6 +8,3 @@
 mod rows;
 
 pub use rows::conversion;
-
-#[cfg(test)]
-mod tests;

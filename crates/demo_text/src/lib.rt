@@ -13,6 +13,3 @@ pub use draw::Draw;
 pub use laws::demo_texts_are_tests;
 pub use line::Line;
 pub use text::{demo_iterations, demo_text};
-
-#[cfg(test)]
-mod tests;

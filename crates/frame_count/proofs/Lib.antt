@@ -4,12 +4,10 @@ pub mod Conjoining
 pub mod Counts
 pub mod Cuts
 pub mod Digits
-pub mod EachLog
 pub mod Knowing
 pub mod LogsOfRuns
 pub mod Masks
 pub mod Multiples
-pub mod PairsOfLogs
 pub mod Partition
 pub mod Reaches
 pub mod Remembered

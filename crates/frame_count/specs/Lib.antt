@@ -2,8 +2,6 @@ pub mod Block
 pub mod Count
 pub mod Counted
 pub mod Known
-pub mod RingLogs
 pub mod Row
 pub mod Rows
 pub mod RunLogs
-pub mod TwoLogs

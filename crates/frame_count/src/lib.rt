@@ -41,13 +41,9 @@ mod laws;
 mod numbers;
 mod pieces;
 mod reach;
-#[cfg(test)]
-mod ring_tests;
 mod row;
 mod so_far;
 mod stretch;
-#[cfg(test)]
-mod tests;
 mod until;
 
 pub use at_frame::holds;

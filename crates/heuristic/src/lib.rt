@@ -15,8 +15,6 @@ mod found;
 mod laws;
 mod picking;
 mod plan;
-#[cfg(test)]
-mod tests;
 
 pub use found::hits;
 pub use laws::{listed_are_hits_of_runs, picks_are_those_of_runs, runs_can_be_picked};

@@ -29,6 +29,3 @@ pub fn one_reading()
 pub fn names_are_ascii()
     ensures { NamesAreAscii }
 {}
-
-#[cfg(test)]
-mod tests;

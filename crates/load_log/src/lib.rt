@@ -12,8 +12,6 @@
 
 mod log;
 mod logs;
-#[cfg(test)]
-mod tests;
 
 pub use log::Log;
 pub use logs::Logs;

@@ -15,8 +15,6 @@ mod cond;
 mod conds;
 mod convert;
 mod laws;
-#[cfg(test)]
-mod tests;
 
 pub use cond::{Cond, CondKind};
 pub use conds::Conds;

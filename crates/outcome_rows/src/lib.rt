@@ -25,6 +25,3 @@ pub use laws::{
     some_execution,
 };
 pub use rows::{Stop, list_rows};
-
-#[cfg(test)]
-mod tests;

@@ -50,6 +50,3 @@ pub use schedule::Schedule;
 pub use sink::{Sink, write_whole};
 pub use source::{ReadError, Source, read_input};
 pub use standard::{StdSink, StdSource};
-
-#[cfg(test)]
-mod tests;

@@ -35,6 +35,3 @@ pub use replaying::replay;
 pub use threads::run_threads;
 pub use walker::Walker;
 pub use went::Went;
-
-#[cfg(test)]
-mod tests;

@@ -13,6 +13,3 @@ mod kind;
 pub use checked::{Checked, check};
 pub use error::ProfileError;
 pub use kind::{AtomKind, ProfileKind};
-
-#[cfg(test)]
-mod tests;

@@ -12,6 +12,3 @@ mod run;
 mod turn;
 
 pub use run::run_of_schedule;
-
-#[cfg(test)]
-mod tests;

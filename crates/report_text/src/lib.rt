@@ -23,6 +23,3 @@ pub use report_lines::{count_report, report};
 pub use rows::{CountReport, Report};
 pub use status::{Over, Status};
 pub use words::push_bytes;
-
-#[cfg(test)]
-mod tests;

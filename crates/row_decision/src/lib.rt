@@ -21,6 +21,3 @@ mod reading;
 pub use decide::{Answer, Decision, decide_readings};
 pub use front::{Front, FrontAnswer, Register, decide_front, hold_reads, read_of, value_of};
 pub use reading::Reading;
-
-#[cfg(test)]
-mod tests;

@@ -22,8 +22,6 @@ mod log_line;
 mod logs;
 mod numbers;
 mod section;
-#[cfg(test)]
-mod tests;
 mod words;
 
 pub use error::SectionError;

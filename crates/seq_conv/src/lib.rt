@@ -17,6 +17,3 @@ pub use number::Number;
 pub use sequences::Sequences;
 pub use site::{Origin, Site};
 pub use writers::stand_in;
-
-#[cfg(test)]
-mod tests;

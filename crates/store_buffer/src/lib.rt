@@ -12,8 +12,6 @@
 mod buffer;
 mod drains;
 mod entry;
-#[cfg(test)]
-mod tests;
 
 pub use buffer::Buffer;
 pub use drains::Drains;

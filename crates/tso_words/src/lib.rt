@@ -24,8 +24,6 @@ mod port;
 mod rule;
 mod step;
 mod steps;
-#[cfg(test)]
-mod tests;
 mod traced;
 
 pub use field::{Done, Field, Home, Words};

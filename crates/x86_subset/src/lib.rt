@@ -27,6 +27,3 @@ pub use laws::{conjunctions_have_the_atoms, one_cut, one_parse};
 pub use lex::{close_end, is_blank, is_next, line_behind, next_line, tokens};
 pub use test::{Atom, Quantifier, Shape, Test};
 pub use token::{Token, TokenKind};
-
-#[cfg(test)]
-mod tests;

@@ -1,0 +1,3 @@
+pub mod EachLog
+pub mod PairsOfLogs
+pub mod Trying

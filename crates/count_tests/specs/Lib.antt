@@ -1,0 +1,3 @@
+pub mod RingLogs
+pub mod Tried
+pub mod TwoLogs
