@@ -27,7 +27,7 @@ use Rattle.outcome_states.specs.Laws.{OneText, OutcomesAreListed, TextsAreNotRef
 use Rattle.outcome_states.specs.Registers.{first_unread, registers_of, unread_by, unread_from}
 use Rattle.outcome_states.specs.States.{HasManyStates, IsStopAt, IsTold, TakesAllSteps, told}
 use Rattle.outcome_states.specs.Text.{outcomes_text}
-use Rattle.outcome_states.specs.declared.limits.TheConstants.{MOST_STEPS}
+use Rattle.perp_base.specs.declared.limits.TheConstants.{MOST_STEPS}
 
 pub outcomes_are_listed_lem : OutcomesAreListed
 outcomes_are_listed_lem test text h =

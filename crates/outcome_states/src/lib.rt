@@ -18,7 +18,6 @@
 mod columns;
 mod counting;
 mod laws;
-mod limits;
 mod outcomes;
 mod registers;
 mod states;
@@ -28,7 +27,6 @@ pub use laws::{
     counted_is_allowed, counted_rows_satisfy, lines_are_apart, one_text, outcomes_are_listed,
     texts_are_not_refused,
 };
-pub use limits::{MOST_STATES, MOST_STEPS};
 pub use outcomes::outcomes_text;
 pub use registers::Refused;
 
