@@ -1,5 +1,5 @@
 -- The states of a test: what is told of front parts, and what their text says.
-use Rattle.std.proofs.Common.{◌≡◌, ℕ, suc, ◌+◌, Bool, true, false, All, IfOk, MatchResult, Option, None, Some, Result, Ok, Err, List, [], ◌∷◌, length, map, min, take, refl, sym, ap, ◌∙◌, subst}
+use Rattle.std.proofs.Common.{◌≡◌, ℕ, suc, ◌+◌, Bool, true, false, All, IfOk, MatchResult, Option, None, Some, Result, Ok, Err, List, [], ◌∷◌, length, map, min, take, refl, sym, ap, ◌∙◌, subst, arith}
 use Rattle.std.specs.List.{take-map}
 use Rattle.std.proofs.lemmas.List.{take_min}
 use Rattle.std.proofs.lemmas.List.Elements.{All-from_recursion}
@@ -23,11 +23,11 @@ use Rattle.outcome_states.specs.declared.registers.Refused.{Refused}
 use Rattle.outcome_states.specs.declared.registers.Refused.TheVariants as refused
 use Rattle.profile_check.specs.declared.kind.ProfileKind.{ProfileKind}
 use Rattle.x86_subset.specs.declared.test.Atom.{Atom}
-use Rattle.outcome_states.specs.Laws.{OneText, OutcomesAreListed}
+use Rattle.outcome_states.specs.Laws.{OneText, OutcomesAreListed, TextsAreNotRefused}
 use Rattle.outcome_states.specs.Registers.{first_unread, registers_of, unread_by, unread_from}
 use Rattle.outcome_states.specs.States.{HasManyStates, IsStopAt, IsTold, TakesAllSteps, told}
 use Rattle.outcome_states.specs.Text.{outcomes_text}
-use Rattle.outcome_states.specs.declared.limits.TheConstants.{MOST_STEPS}
+use Rattle.perp_base.specs.declared.limits.TheConstants.{MOST_STEPS}
 
 pub outcomes_are_listed_lem : OutcomesAreListed
 outcomes_are_listed_lem test text h =
@@ -39,6 +39,16 @@ one_text_lem test text other a b =
     ∙ ap (outcomes_text test (registers_of test)) (all_rows_are_one_lem test (registers_of test) a.rows b.rows
     a.states.0 b.states.0)
     ∙ sym b.text_is
+
+pub texts_are_not_refused_lem : TextsAreNotRefused
+texts_are_not_refused_lem test text (refused.Unread atom kind) h k = absurd (both test.atoms h.read k)
+  where
+    both : (atoms : List Atom) → unread_from test 1 atoms ≡ None
+        → unread_from test 1 atoms ≡ Some (refused.Unread atom kind) → ⊥
+    both atoms e f = cc
+texts_are_not_refused_lem test text refused.States h k =
+    absurd (let few = h.states.1 in let many = k.1 h.rows h.states.0 in omega arith)
+texts_are_not_refused_lem test text refused.Steps h k = refl
 
 -- ---- what is told
 

@@ -9,9 +9,11 @@ use Rattle.outcome_rows.specs.Conditions.{Satisfies}
 use Rattle.outcome_rows.specs.Listing.{AreAllRows}
 use Rattle.outcome_rows.specs.Rows.{EndsWith, Register}
 use Rattle.outcome_states.specs.Counting.{count_met, is_met}
-use Rattle.outcome_states.specs.Outcomes.{IsOutcomesText}
+use Rattle.outcome_states.specs.Outcomes.{IsOutcomesText, RefusesOutcomes}
 use Rattle.outcome_states.specs.Registers.{first_unread, registers_of}
 use Rattle.outcome_states.specs.Text.{outcomes_text, state_line}
+use Rattle.outcome_states.specs.declared.registers.Refused.{Refused}
+use Rattle.outcome_states.specs.declared.registers.Refused.TheVariants.{Steps}
 
 -- some execution of the test as it is written ends with these values of the registers
 abbrev pub SomeExecutionEnds : LitmusTest → List Register → List ℕ → Type 0
@@ -46,6 +48,14 @@ OneText =
     → IsOutcomesText test text
     → IsOutcomesText test other
     → text ≡ other
+
+-- law: where a test has a text, no refusal is right but that a decision took all its steps
+abbrev pub TextsAreNotRefused : Type 0
+TextsAreNotRefused =
+    (test : LitmusTest) (text : List ℕ) (refused : Refused)
+    → IsOutcomesText test text
+    → RefusesOutcomes test refused
+    → refused ≡ Steps
 
 -- law: the rows that are counted are those in which the atoms of some conjunction have their values
 abbrev pub CountedRowsSatisfy : Type 0

@@ -9,7 +9,7 @@ use Rattle.row_decision.specs.Fronts.{IsFront}
 use Rattle.row_decision.specs.declared.front.Front.{Front}
 use Rattle.row_decision.specs.declared.front.Front.TheVariants as front
 use Rattle.row_decision.specs.declared.front.FrontAnswer.{FrontAnswer}
-use Rattle.outcome_states.specs.declared.limits.TheConstants.{MOST_STATES, MOST_STEPS}
+use Rattle.perp_base.specs.declared.limits.TheConstants.{MOST_STATES, MOST_STEPS}
 
 -- a decision of these values of the first registers took all its steps
 pub record TakesAllSteps (test : LitmusTest) (registers : List Register) (values : List ℕ) : Type 0 where

@@ -1,5 +1,5 @@
 //! What the text says of the executions of a test.
-ghost use Rattle.outcome_states.specs.Laws.{CountedIsAllowed, CountedRowsSatisfy, LinesAreApart, OneText, OutcomesAreListed};
+ghost use Rattle.outcome_states.specs.Laws.{CountedIsAllowed, CountedRowsSatisfy, LinesAreApart, OneText, OutcomesAreListed, TextsAreNotRefused};
 
 /// A state stands there exactly where some execution of the test as it is written ends with it.
 pub fn outcomes_are_listed()
@@ -14,6 +14,11 @@ pub fn lines_are_apart()
 /// A test has one text, or none.
 pub fn one_text()
     ensures { OneText }
+{}
+
+/// Where a test has a text, it is refused for want of steps alone.
+pub fn texts_are_not_refused()
+    ensures { TextsAreNotRefused }
 {}
 
 /// The states that are counted are those in which the atoms of some conjunction have their values.

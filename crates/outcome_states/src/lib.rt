@@ -10,15 +10,14 @@
 //!
 //! `laws` has one public function for each law of `specs/Laws`: a state stands there exactly where some execution of the
 //! test ends with it (`outcomes_are_listed`), its line is no other state's (`lines_are_apart`), and a test has one text
-//! (`one_text`). The states that are counted are those
-//! in which some conjunction holds (`counted_rows_satisfy`), and there are some exactly where x86-TSO allows what the
-//! condition asks for (`counted_is_allowed`).
+//! (`one_text`), beside which it is refused for want of steps alone (`texts_are_not_refused`). The states that are counted
+//! are those in which some conjunction holds (`counted_rows_satisfy`), and there are some exactly where x86-TSO allows
+//! what the condition asks for (`counted_is_allowed`).
 #![tactic(auto)]
 
 mod columns;
 mod counting;
 mod laws;
-mod limits;
 mod outcomes;
 mod registers;
 mod states;
@@ -26,8 +25,8 @@ mod text;
 
 pub use laws::{
     counted_is_allowed, counted_rows_satisfy, lines_are_apart, one_text, outcomes_are_listed,
+    texts_are_not_refused,
 };
-pub use limits::{MOST_STATES, MOST_STEPS};
 pub use outcomes::outcomes_text;
 pub use registers::Refused;
 

@@ -6,9 +6,8 @@ ghost use Rattle.row_decision.specs.Fronts.{register_seen};
 ghost use Rattle.outcome_states.specs.States.{AreFewStates, IsStopAt, IsTold, told};
 
 use crate::columns::columns;
-use crate::limits::{MOST_STATES, MOST_STEPS};
 use outcome_rows::{Stop, list_rows};
-use perp_base::NoMemory;
+use perp_base::{MOST_STATES, MOST_STEPS, NoMemory};
 use row_decision::{Front, Register, decide_front};
 use seq_conv::Sequences;
 use std::alloc::Global;

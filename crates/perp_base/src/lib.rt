@@ -40,7 +40,8 @@ pub use failure::{Failed, NoMemory};
 pub use frame::Frame;
 pub use limits::{
     MOST_ACTIONS, MOST_ATOMS, MOST_BYTES, MOST_CONJUNCTIONS, MOST_FRAMES, MOST_INPUT,
-    MOST_ITERATIONS, MOST_LOCATIONS, MOST_PIECES, MOST_THREADS, MOST_WRITES, WHOLE_RATE,
+    MOST_ITERATIONS, MOST_LOCATIONS, MOST_PIECES, MOST_STATES, MOST_STEPS, MOST_THREADS,
+    MOST_WRITES, WHOLE_RATE,
 };
 pub use memory_sink::MemSink;
 pub use memory_source::MemSource;

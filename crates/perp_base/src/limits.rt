@@ -33,5 +33,11 @@ pub const MOST_CONJUNCTIONS: usize = 8;
 /// How many writes a store buffer holds, at most.
 pub const MOST_WRITES: usize = 16;
 
+/// How many states of a test are listed, at most.
+pub const MOST_STATES: usize = 10_000;
+
+/// How many steps the decision of a row takes, at most.
+pub const MOST_STEPS: u64 = 20_000;
+
 /// A rate says how many of so many words ask for a drain.
 pub const WHOLE_RATE: u64 = 256;
