@@ -15,7 +15,7 @@ use Rattle.run_witness.specs.Stage.{slot_write}
 use Rattle.run_witness.proofs.Reading.{store_stores}
 use Rattle.run_witness.proofs.Slots.{oldest, slot_at}
 use Rattle.verdict.specs.Edges.{is_access}
-use Rattle.run_orders.specs.Orders.{Afar, Draws, FromStart, FromStore, Near, Spot, slot_in, spot_of, value_at}
+use Rattle.run_orders.specs.Orders.{Afar, AllDraw, Draws, FromStart, FromStore, Near, Spot, slot_in, spot_of, value_at}
 use Rattle.run_orders.specs.Course.{Begun, IsOldest, IsOpen, StoresNone}
 use Rattle.run_orders.proofs.Begun.{Came, Comes, IsFree, location_at, one_slot, spot, storing_access}
 use Rattle.run_orders.proofs.Gone.{Next, deed, next_drain, next_exchange, next_fence, next_push, next_read, queue}
@@ -175,9 +175,6 @@ read_value test n edge wanted marks events b t v d unread free = go d.source
         → readable (after_all test initial events) t d.location ≡ v
     go (inl f) = start f.0 ∙ sym f.1
     go (inr f) = by f.0 f.0.place ∙ sym f.1
-
-abbrev pub AllDraw : LitmusTest → ℕ → (Spot → Spot → Bool) → (Spot → ℕ → Bool) → Type 0
-AllDraw test n edge wanted = (r : Spot) (v : ℕ) → wanted r v ≡ true → Draws test n edge r v
 
 -- the event of a reading action reads what is wanted
 wants_value : (test : LitmusTest) (n : ℕ) (edge : Spot → Spot → Bool) (wanted : Spot → ℕ → Bool) (marks : ℕ → Mark)

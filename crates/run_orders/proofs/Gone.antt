@@ -1,5 +1,5 @@
 -- How far a run that has been begun has come, and the events that can be next.
-use Rattle.std.proofs.Common.{◌≡◌, ℕ, zero, suc, ◌+◌, ◌-◌, ◌*◌, ◌<◌, ◌≤◌, ◌==◌, true, false, not, Some, List, [], ◌∷◌, ◌++◌, length, map, filter, take, slice_get, refl, sym, ap, ◌∙◌, arith, subst, inl, inr, ◌⊎◌, append-nil, eq-eqb, ne_eqb}
+use Rattle.std.proofs.Common.{◌≡◌, ℕ, zero, suc, ◌+◌, ◌*◌, ◌<◌, ◌≤◌, ◌==◌, true, false, not, Some, List, [], ◌∷◌, ◌++◌, length, map, filter, take, slice_get, refl, sym, ap, ◌∙◌, arith, subst, inl, inr, ◌⊎◌, append-nil, eq-eqb, ne_eqb}
 use Rattle.std.proofs.lemmas.Bool.{cases_eq, cases_lt, true≢false}
 use Rattle.std.proofs.lemmas.List.{take_all, take_more}
 use Rattle.std.proofs.lemmas.List.Elements.{All-from_recursion, filter-append}
@@ -19,19 +19,11 @@ use Rattle.run_witness.proofs.Stands.{IsOf, all_drained, done_more, mark_at, sta
 use Rattle.run_witness.specs.Marks.{Mark, is_storing, loop_of, waiting}
 use Rattle.run_witness.specs.Order.{is_store}
 use Rattle.run_witness.specs.Stage.{Stands, slot_write}
-use Rattle.run_orders.specs.Course.{Gone, IsOldest, WaitsStores, deeds}
+use Rattle.run_orders.specs.Course.{Gone, IsOldest, WaitsStores, deeds, left, total}
 
 -- what waits
 abbrev pub queue : LitmusTest → ℕ → (ℕ → Mark) → ℕ → List Slot
 queue test n marks t = waiting (loop_of test n t) (marks t).drained (marks t).done
-
--- what is left to do
-abbrev pub left : LitmusTest → ℕ → ℕ → Mark → ℕ
-left test n t m = (length (loop_of test n t) - m.done) + (length (loop_of test n t) - m.drained)
-
-abbrev pub total : LitmusTest → ℕ → (ℕ → Mark) → ℕ → ℕ
-total test n marks zero = 0
-total test n marks (suc k) = left test n k (marks k) + total test n marks k
 
 updated_same : {A : Type 0} (f : ℕ → A) (t : ℕ) (a : A) → updated f t a t ≡ a
 updated_same f t a = rw (eq-eqb t t refl) refl

@@ -19,12 +19,12 @@ use Rattle.run_witness.proofs.Slots.{has_item, loop_length}
 use Rattle.run_witness.proofs.Stands.{fresh, stands_fresh}
 use Rattle.verdict.specs.Edges.{is_access, is_barrier, is_cycle_of}
 use Rattle.run_orders.specs.Laws.{RunAlong}
-use Rattle.run_orders.specs.Orders.{IsWanted, KeepsOrder, Spot, slot_in}
-use Rattle.run_orders.specs.Course.{Begun, Gone, IsOpen, StoresNone}
+use Rattle.run_orders.specs.Orders.{AllDraw, IsWanted, KeepsOrder, Spot, slot_in}
+use Rattle.run_orders.specs.Course.{Begun, Gone, IsOpen, StoresNone, total}
 use Rattle.run_orders.proofs.Begun.{IsFree, one_slot, spot, storing_access}
 use Rattle.run_orders.proofs.Chances.{CanDo, Chance, chance_further}
-use Rattle.run_orders.proofs.Going.{AllDraw, late_load, late_write, none_queue, not_done, own_open, reading_access}
-use Rattle.run_orders.proofs.Gone.{ended_run, total}
+use Rattle.run_orders.proofs.Going.{late_load, late_write, none_queue, not_done, own_open, reading_access}
+use Rattle.run_orders.proofs.Gone.{ended_run}
 use Rattle.run_orders.proofs.Least.{Least, Loop, further, least, loop_cycle}
 
 -- Threads of the test.

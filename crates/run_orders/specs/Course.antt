@@ -1,6 +1,6 @@
 -- How far a run along edges has come, what is kept of it, and what a thread's next action does. The machine is x86-TSO
 -- (Sewell, Sarkar, Owens, Zappa Nardelli and Myreen, CACM 2010); what is kept is this project's own.
-use Rattle.std.specs.Prelude.{◌≡◌, ℕ, ◌<◌, ◌≤◌, Bool, true, false, not, Some, List, filter, take, slice_get, length, if◌then◌else◌}
+use Rattle.std.specs.Prelude.{◌≡◌, ℕ, zero, suc, ◌+◌, ◌-◌, ◌<◌, ◌≤◌, Bool, true, false, not, Some, List, filter, take, slice_get, length, if◌then◌else◌}
 use Rattle.std.specs.List.{AllZip, AllByRecursion as Each}
 use Rattle.x86_subset.specs.Test.{LitmusTest}
 use Rattle.x86_subset.specs.declared.instr.Instr.{Instr}
@@ -34,6 +34,14 @@ pub record Gone (test : LitmusTest) (n : ℕ) (marks : ℕ → Mark) (events : L
       → AllZip (Fills t) (take (marks t).done (loop_of test n t)) (deeds t events)
   pub threads : Each (λ e. e.thread < length test.bodies) events
   pub stores : (t : ℕ) → WaitsStores test n t (marks t)
+
+-- what a thread has left to do, and what the first threads have
+abbrev pub left : LitmusTest → ℕ → ℕ → Mark → ℕ
+left test n t m = (length (loop_of test n t) - m.done) + (length (loop_of test n t) - m.drained)
+
+abbrev pub total : LitmusTest → ℕ → (ℕ → Mark) → ℕ → ℕ
+total test n marks zero = 0
+total test n marks (suc k) = left test n k (marks k) + total test n marks k
 
 -- ---- what is kept
 
