@@ -19,8 +19,8 @@ use Rattle.run_witness.proofs.Slots.{slot_at}
 use Rattle.run_witness.proofs.Stands.{stores_at}
 use Rattle.verdict.specs.Edges.{is_access}
 use Rattle.run_orders.specs.Orders.{FromStart, FromStore, IsWanted, Spot, StoresAt, slot_in, value_at}
-use Rattle.run_orders.specs.Course.{Begun, IsOpen}
-use Rattle.run_orders.proofs.Gone.{Next, deed, mark_then}
+use Rattle.run_orders.specs.Course.{Begun, IsOpen, mark_then}
+use Rattle.run_orders.proofs.Gone.{Next, deed}
 
 pub storing_access : (a : Instr) → is_storing a ≡ true → is_access a ≡ true
 storing_access Fence h = cc

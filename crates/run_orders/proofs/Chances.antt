@@ -10,11 +10,11 @@ use Rattle.seq_conv.specs.Sequence.{site_location}
 use Rattle.run_witness.specs.Marks.{Mark, is_storing, loop_of}
 use Rattle.run_witness.specs.Order.{is_store}
 use Rattle.verdict.specs.Edges.{is_access}
-use Rattle.run_orders.specs.Course.{Begun, IsOldest, StoresNone, kind_now, total}
+use Rattle.run_orders.specs.Course.{Begun, IsOldest, StoresNone, kind_now, mark_then, total}
 use Rattle.run_orders.specs.Orders.{AllDraw, Spot}
 use Rattle.run_orders.proofs.Begun.{IsFree, begun_step, marks_then, spot}
 use Rattle.run_orders.proofs.Going.{Goes, goes_drain, goes_exchange, goes_fence, goes_push, goes_read, none_queue}
-use Rattle.run_orders.proofs.Gone.{deed, mark_then, total_less}
+use Rattle.run_orders.proofs.Gone.{deed, total_less}
 
 -- what the next action of a thread waits for: a read for its spot to be free, a fence and an exchange for the thread's
 -- own stores

@@ -19,7 +19,7 @@ use Rattle.run_witness.proofs.Stands.{IsOf, all_drained, done_more, mark_at, sta
 use Rattle.run_witness.specs.Marks.{Mark, is_storing, loop_of, waiting}
 use Rattle.run_witness.specs.Order.{is_store}
 use Rattle.run_witness.specs.Stage.{Stands, slot_write}
-use Rattle.run_orders.specs.Course.{Gone, IsOldest, WaitsStores, deeds, left, total}
+use Rattle.run_orders.specs.Course.{Gone, IsOldest, WaitsStores, deeds, left, mark_then, total}
 
 -- what waits
 abbrev pub queue : LitmusTest → ℕ → (ℕ → Mark) → ℕ → List Slot
@@ -147,14 +147,6 @@ gone_step test n marks events e r g below needs stands adv waits =
 -- what a slot does
 abbrev pub deed : ℕ → Slot → Kind → Event
 deed t s k = record { thread = t; iteration = s.iteration; place = s.place; kind = k }
-
--- a thread's mark after an event of this kind, at this place of its loop
-abbrev pub mark_then : Kind → ℕ → Mark → Mark
-mark_then Push i m = record { done = m.done + 1; drained = m.drained }
-mark_then Drain i m = record { done = m.done; drained = i + 1 }
-mark_then (Read v) i m = record { done = m.done + 1; drained = m.drained }
-mark_then Fenced i m = record { done = m.done + 1; drained = m.drained }
-mark_then (Exchanged v) i m = record { done = m.done + 1; drained = m.done + 1 }
 
 -- the event of a slot can be next, and leaves less to do
 pub record Next (test : LitmusTest) (n : ℕ) (marks : ℕ → Mark) (events : List Event) (t i : ℕ) (s : Slot)

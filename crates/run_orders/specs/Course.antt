@@ -5,7 +5,7 @@ use Rattle.std.specs.List.{AllZip, AllByRecursion as Each}
 use Rattle.x86_subset.specs.Test.{LitmusTest}
 use Rattle.x86_subset.specs.declared.instr.Instr.{Instr}
 use Rattle.x86_subset.specs.declared.instr.Instr.TheVariants.{Store, Load, Fence, Exchange}
-use Rattle.tso_machine.specs.Event.{Event, Kind, Push, Read, Fenced, Exchanged, is_drain}
+use Rattle.tso_machine.specs.Event.{Event, Kind, Push, Drain, Read, Fenced, Exchanged, is_drain}
 use Rattle.tso_machine.specs.Machine.{State, Steps, after_all, initial, readable}
 use Rattle.tso_machine.specs.Part.{Fills, Slot, part_of}
 use Rattle.run_witness.specs.Marks.{Mark, is_storing, loop_of}
@@ -34,6 +34,14 @@ pub record Gone (test : LitmusTest) (n : ℕ) (marks : ℕ → Mark) (events : L
       → AllZip (Fills t) (take (marks t).done (loop_of test n t)) (deeds t events)
   pub threads : Each (λ e. e.thread < length test.bodies) events
   pub stores : (t : ℕ) → WaitsStores test n t (marks t)
+
+-- a thread's mark after an event of this kind, at this place of its loop
+abbrev pub mark_then : Kind → ℕ → Mark → Mark
+mark_then Push i m = record { done = m.done + 1; drained = m.drained }
+mark_then Drain i m = record { done = m.done; drained = i + 1 }
+mark_then (Read v) i m = record { done = m.done + 1; drained = m.drained }
+mark_then Fenced i m = record { done = m.done + 1; drained = m.drained }
+mark_then (Exchanged v) i m = record { done = m.done + 1; drained = m.done + 1 }
 
 -- what a thread has left to do, and what the first threads have
 abbrev pub left : LitmusTest → ℕ → ℕ → Mark → ℕ
