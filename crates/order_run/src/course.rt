@@ -1,5 +1,5 @@
 //! A run that has been begun.
-ghost use Rattle.std.specs.Prelude.{◌≡◌, IfOk};
+ghost use Rattle.std.specs.Prelude.{◌≡◌, IfOk, List};
 ghost use Rattle.order_run.specs.Course.{IsCourse, mark_of, marks_of};
 ghost use Rattle.choice_search.specs.declared.graph.Pair.{Pair};
 
