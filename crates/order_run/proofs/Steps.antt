@@ -1,6 +1,6 @@
 -- What is kept of a run along edges, as the code has it.
-use Rattle.std.proofs.Common.{◌≡◌, ℕ, zero, suc, ◌+◌, ◌*◌, ◌/◌, ◌%◌, ◌<◌, ◌≤◌, ◌==◌, ◌&&◌, Bool, true, false, cond, None, Some, List, [], ◌∷◌, ◌++◌, length, map, set, get_or, slice_get, replicate, refl, sym, ap, ◌∙◌, arith, subst, inl, inr, ◌⊎◌, All, eq-eqb, ne_eqb, get_or-set_other, get_or-set_same, length-set}
-use Rattle.std.proofs.lemmas.Bool.{cases_eq}
+use Rattle.std.proofs.Common.{◌≡◌, ℕ, zero, suc, ◌+◌, ◌*◌, ◌/◌, ◌%◌, ◌<◌, ◌≤◌, ◌==◌, ◌&&◌, Bool, true, false, cond, None, Some, List, [], ◌∷◌, ◌++◌, length, map, set, get_or, slice_get, replicate, refl, sym, ap, ◌∙◌, arith, subst, inl, inr, ◌⊎◌, All, eq-eqb, ne_eqb, get_or-set_other, get_or-set_same, length-set, unwrap_or}
+use Rattle.std.proofs.lemmas.Bool.{cases_eq, true≢false}
 use Rattle.std.proofs.lemmas.List.{get_or-replicate, length-replicate}
 use Rattle.std.proofs.lemmas.List.Elements.{All-from_recursion}
 use Rattle.std.proofs.lemmas.Option.{slice_get_within, unwrap_or-slice_get}
@@ -8,13 +8,14 @@ use Rattle.x86_subset.specs.Shape.{IsTest}
 use Rattle.x86_subset.specs.Test.{LitmusTest, body_of}
 use Rattle.x86_subset.specs.declared.instr.Instr.{Instr}
 use Rattle.tso_machine.specs.Event.{Event, Kind, Drain, event_location, written_value}
-use Rattle.tso_machine.specs.Machine.{State, after_all, initial, updated}
+use Rattle.tso_machine.specs.Machine.{State, after_all, initial, newest, readable, updated}
 use Rattle.tso_machine.specs.Part.{Slot}
 use Rattle.tso_machine.specs.Source.{is_memory_kind}
 use Rattle.tso_machine.proofs.Runs.{memory_after_event}
 use Rattle.seq_conv.specs.Numbers.{AreOf, Table, value_at}
 use Rattle.seq_conv.specs.Sequence.{site_location}
-use Rattle.run_witness.specs.Marks.{Mark, is_storing, loop_of}
+use Rattle.run_witness.specs.Marks.{Mark, is_storing, loop_of, waiting}
+use Rattle.run_witness.specs.Stage.{slot_write}
 use Rattle.run_witness.proofs.Begun.{after_push}
 use Rattle.run_witness.proofs.Slots.{loop_length, slot_at}
 use Rattle.run_witness.proofs.Stands.{fresh}
@@ -24,16 +25,16 @@ use Rattle.decision.proofs.Courses.{value_written}
 use Rattle.decision.proofs.Nexts.{slot_action, slot_place}
 use Rattle.choice_search.specs.declared.graph.Pair.{Pair}
 use Rattle.choice_search.specs.Graph.{has_pair}
-use Rattle.run_orders.specs.Course.{Begun, IsOldest, kind_now, mark_then, total}
+use Rattle.run_orders.specs.Course.{Begun, IsOldest, StoresNone, kind_now, mark_then, total}
 use Rattle.run_orders.specs.Orders.{AllDraw, Draws, IsWanted, KeepsOrder, Spot}
-use Rattle.run_orders.proofs.Begun.{begun_step, marks_then}
+use Rattle.run_orders.proofs.Begun.{begun_step, marks_then, one_slot}
 use Rattle.run_orders.proofs.Chances.{goes_act}
 use Rattle.run_orders.proofs.Going.{Goes, goes_drain}
 use Rattle.run_orders.proofs.Gone.{deed, total_less}
 use Rattle.run_orders.proofs.Making.{AllEnded, Closed, all_ended, begun_begins, stuck_ends}
 use Rattle.order_run.specs.declared.course.Progress.{Progress}
 use Rattle.order_run.specs.Along.{HasCycle, IsRunAlong, StandFor, spot_at}
-use Rattle.order_run.specs.Course.{AreEnded, CanDo, IsHeld, IsKept, IsNext, acts, deed_event, drains, is_held, mark_of, marks_of}
+use Rattle.order_run.specs.Course.{AreEnded, CanDo, IsHeld, IsKept, IsNext, IsWaiting, acts, deed_event, drains, is_held, mark_of, marks_of}
 use Rattle.order_run.proofs.Held.{can_from, free_from, none_goes, number_spot, small_place}
 
 -- ---- marks
@@ -120,6 +121,8 @@ pub record Able (test : LitmusTest) (edges : List Pair) (marks : ℕ → Mark) (
     (e : Event) : Type 0 where
   pub slot : Slot
   pub is : deed e.thread slot e.kind ≡ e
+  pub thread : e.thread < length test.bodies
+  pub first : e.iteration ≡ 0
   pub place : e.place < length (body_of test e.thread)
   pub goes : (edge : Spot → Spot → Bool) (wanted : Spot → ℕ → Bool) → StandFor edges edge
       → AllDraw test 1 edge wanted → Goes test 1 edge wanted marks events e.thread e.place slot e.kind
@@ -148,6 +151,8 @@ able test edges ms words events e is k (drains below s o free same) =
         place = here i;
         kind = e.kind;
       });
+      thread = below;
+      first = zero_is;
       place = within_body test e.thread e.place s o.stands;
       goes = λ edge wanted stand draws.
           let P : Kind → Type 0 = λ z. Goes test 1 edge wanted (marks_of ms) events e.thread e.place s z in
@@ -167,6 +172,8 @@ able test edges ms words events e is k (acts below a at here can same) =
     record {
       slot = s;
       is = (λ i. record { thread = t; iteration = sym zero_is i; place = e.place; kind = e.kind });
+      thread = below;
+      first = zero_is;
       place = slice_get_within (body_of test t) e.place a at;
       goes = λ edge wanted stand draws.
           let P : Kind → Type 0 = λ z. Goes test 1 edge wanted (marks_of ms) events t e.place s z in
@@ -186,10 +193,6 @@ own_goes : (test : LitmusTest) (edges : List Pair) (marks : ℕ → Mark) (event
 own_goes test edges marks events e a =
     a.goes (own_edge edges) nothing (own_stands edges) (nothing_drawn test (own_edge edges))
 
-pub able_thread : (test : LitmusTest) (edges : List Pair) (marks : ℕ → Mark) (events : List Event) (e : Event)
-    → Able test edges marks events e → e.thread < length test.bodies
-able_thread test edges marks events e a = (own_goes test edges marks events e a).next.thread
-
 pub course_step : (test : LitmusTest) (edges : List Pair) (ms : List Progress) (words : List ℕ)
     (events : List Event) (e : Event) (r : Progress) (words2 : List ℕ) (events2 : List Event)
     → IsKept test edges ms words events → Able test edges (marks_of ms) events e
@@ -198,7 +201,7 @@ pub course_step : (test : LitmusTest) (edges : List Pair) (ms : List Progress) (
     (written_value test e) (get_or words x 0))
     → events2 ≡ events ++ e ∷ [] → IsKept test edges (set ms e.thread r) words2 events2
 course_step test edges ms words events e r words2 events2 k a mark long mem more =
-    let l = able_thread test edges (marks_of ms) events e a in
+    let l = a.thread in
     let c = k.count in
     let below : e.thread < length ms = omega arith in
     let marks : marks_of (set ms e.thread r) ≡ marks_then (marks_of ms) e.thread e.place e.kind =
@@ -288,3 +291,67 @@ stuck_cycle test edges ms words events is k held not_ended edge stand order =
     go : Closed edge ⊎ AllEnded test 1 (marks_of ms) → Closed edge
     go (inl c) = c
     go (inr e) = absurd (not_ended (all_ended_are test (marks_of ms) e))
+
+-- ---- what waits
+
+pub none_more : (test : LitmusTest) (t d place : ℕ) (a : Instr) → StoresNone test 1 t d place
+    → slice_get (body_of test t) place ≡ Some a → is_storing a ≡ false → StoresNone test 1 t d (place + 1)
+none_more test t d place a none at k i s l m st = go (cases_eq i place)
+  where
+    go : (i ≡ place) ⊎ (i ≡ place → ⊥) → is_storing s.action ≡ false
+    go (inl e) =
+        let P : ℕ → Type 0 = λ z. slice_get (loop_of test 1 t) z ≡ Some s in
+        let z : Slot = record { iteration = 0; place = place; action = a } in
+        let same : s ≡ z = one_slot s z (sym (subst P e st) ∙ loop_slot test t place a at) in
+        ap (λ (y : Slot). is_storing y.action) same ∙ k
+    go (inr ne) = none i s l (omega arith) st
+
+pub oldest_own : (test : LitmusTest) (ms : List Progress) (t place : ℕ) (own : Progress) → mark_of own ≡ marks_of ms t
+    → ((s : Slot) × IsOldest test 1 t own.drained own.done place s)
+    → ((s : Slot) × IsOldest test 1 t (marks_of ms t).drained (marks_of ms t).done place s)
+oldest_own test ms t place own same o =
+    let P : Mark → Type 0 = λ m. (s : Slot) × IsOldest test 1 t m.drained m.done place s in subst P same o
+
+pub none_own : (test : LitmusTest) (ms : List Progress) (t : ℕ) (own : Progress) → mark_of own ≡ marks_of ms t
+    → StoresNone test 1 t own.drained own.done → StoresNone test 1 t (marks_of ms t).drained (marks_of ms t).done
+none_own test ms t own same o = let P : Mark → Type 0 = λ m. StoresNone test 1 t m.drained m.done in subst P same o
+
+pub not_none : (test : LitmusTest) (t from to place : ℕ) → ((s : Slot) × IsOldest test 1 t from to place s)
+    → StoresNone test 1 t from to → ⊥
+not_none test t from to place o none =
+    true≢false (sym o.1.storing ∙ none place o.0 o.1.after o.1.below o.1.stands)
+
+-- what a read finds, by the buffer's and the memory's word
+pub word_found : (test : LitmusTest) (edges : List Pair) (ms : List Progress) (words : List ℕ) (events : List Event)
+    (t x word v : ℕ) (own : Progress) → IsKept test edges ms words events → mark_of own ≡ marks_of ms t → x < 16
+    → word ≡ get_or words x 0
+    → v ≡ unwrap_or (newest x (map (slot_write test t) (waiting (loop_of test 1 t) own.drained own.done))) word
+    → v ≡ readable (after_all test initial events) t x
+word_found test edges ms words events t x word v own k same low w value =
+    let s = after_all test initial events in
+    let M : Mark → Type 0 = λ m. s.buffer t ≡ map (slot_write test t) (waiting (loop_of test 1 t) m.drained m.done) in
+    let b = subst M (sym same) ((own_begun test edges ms words events k).gone.stands.own t).buffer in
+    value ∙ (λ i. unwrap_or (newest x (sym b i)) ((w ∙ k.memory x low) i))
+
+-- ---- a thread's next action
+
+pub waits_for : (test : LitmusTest) (edges : List Pair) (marks : ℕ → Mark) (t place : ℕ) (a : Instr)
+    → place ≡ (marks t).done → slice_get (body_of test t) place ≡ Some a → (CanDo test edges marks t a → ⊥)
+    → IsWaiting test edges marks t
+waits_for test edges marks t place a here at why =
+    let P : ℕ → Type 0 = λ z. slice_get (body_of test t) z ≡ Some a in
+    record { action = a; stands = subst P here at; why = why }
+
+pub acts_now : (test : LitmusTest) (edges : List Pair) (marks : ℕ → Mark) (events : List Event) (t place : ℕ) (a : Instr)
+    (k : Kind) → t < length test.bodies → place ≡ (marks t).done → slice_get (body_of test t) place ≡ Some a
+    → CanDo test edges marks t a
+    → k ≡ kind_now a (after_all test initial events) t (site_location test (record { thread = t; place = place }))
+    → IsNext test edges marks events (record { thread = t; iteration = 0; place = place; kind = k })
+acts_now test edges marks events t place a k below here at can e =
+    acts below a at here can (λ i. record { thread = t; iteration = 0; place = place; kind = e i })
+
+-- at the thread's mark
+pub held_here : (test : LitmusTest) (edges : List Pair) (marks : ℕ → Mark) (t place : ℕ) (b : Bool)
+    → place ≡ (marks t).done → b ≡ is_held test edges marks (t * 16 + place)
+    → is_held test edges marks (t * 16 + (marks t).done) ≡ b
+held_here test edges marks t place b here h = ap (λ z. is_held test edges marks (t * 16 + z)) (sym here) ∙ sym h

@@ -91,21 +91,19 @@ fn deed_kind(
             let value = newest(test, sequences, n.thread, own, loc).unwrap_or(word);
             Some(RunKind::Read { value })
         }
-        Instr::Fence => {
-            if oldest(test, n.thread, own).is_some() {
-                return None;
+        Instr::Fence => match oldest(test, n.thread, own) {
+            Some(_) => None,
+            None => Some(RunKind::Fence),
+        },
+        Instr::Exchange { .. } => match oldest(test, n.thread, own) {
+            Some(_) => None,
+            None => {
+                if is_held(test, edges, course, place) {
+                    return None;
+                }
+                Some(RunKind::Exchange { value: word })
             }
-            Some(RunKind::Fence)
-        }
-        Instr::Exchange { .. } => {
-            if oldest(test, n.thread, own).is_some() {
-                return None;
-            }
-            if is_held(test, edges, course, place) {
-                return None;
-            }
-            Some(RunKind::Exchange { value: word })
-        }
+        },
     }
 }
 

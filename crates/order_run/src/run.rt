@@ -27,7 +27,7 @@ fn are_ended(test: &Test, edges: &[Pair], course: &Course) -> bool
         if own.done as usize != test.body(t as usize).len() {
             return false;
         }
-        if oldest(test, t, own).is_some() {
+        if let Some(_) = oldest(test, t, own) {
             return false;
         }
     }
