@@ -9,3 +9,6 @@ mod run;
 mod waiting;
 
 pub use run::run_along;
+
+#[cfg(test)]
+mod tests;

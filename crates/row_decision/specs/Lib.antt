@@ -1,3 +1,4 @@
 pub mod Seen
 pub mod Decided
+pub mod Shown
 pub mod Fronts

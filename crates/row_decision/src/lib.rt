@@ -5,6 +5,9 @@
 //! words (its clause, `IsDecision` in `specs/Decided`): a run of one iteration has all sources; none has, since the
 //! source of this reading is hidden, or since this tree of cases refutes them; or all the steps were taken.
 //!
+//! `show_readings` answers the same, and where a run has all sources it gives the events of one (its clause,
+//! `IsShowing` in `specs/Shown`), made along the edges and the sides that the search took (`order_run`).
+//!
 //! `decide_front` goes over all lists of sources that have the values of the front part of a row. It answers whether
 //! an execution of the test as it is written ends with these values, or that all the steps were taken (its clause,
 //! `IsFront` in `specs/Fronts`). It asks that each of the registers holds a read at the end, and no constant, which
@@ -17,10 +20,12 @@ mod front;
 mod graph;
 mod kept;
 mod reading;
+mod show;
 
 pub use decide::{Answer, Decision, decide_readings};
 pub use front::{Front, FrontAnswer, Register, decide_front, hold_reads};
 pub use reading::Reading;
+pub use show::{Showing, Shown, show_readings};
 
 #[cfg(test)]
 mod tests;
