@@ -46,6 +46,7 @@ pub fn run_along(
     ensures { IfOk result (λ made. MatchOption made (HasCycle test.now edges.now)
         (λ run. IsRunAlong test.now edges.now (map event_of run.items))) }
 {
+    let _threads = test.threads();
     let mut course = begin(alloc, test)?;
     while let Some(event) = next_event(test, sequences, edges, &course) {
         perform(test, sequences, edges, &mut course, event)?;

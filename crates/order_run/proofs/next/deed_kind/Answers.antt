@@ -1,4 +1,4 @@
-use Rattle.std.proofs.Common.{◌≡◌, ◌∙◌, ℕ, Some, ap, false, get_or, map, refl, sym, true, unwrap_or}
+use Rattle.std.proofs.Common.{◌≡◌, ◌∙◌, ℕ, Some, ap, arith, false, get_or, map, refl, sym, true, unwrap_or}
 use Rattle.std.proofs.lemmas.Bool.{true≢false}
 use Rattle.tso_machine.specs.Event.{Push, Read, Fenced, Exchanged}
 use Rattle.tso_machine.specs.Machine.{after_all, initial, readable}
@@ -113,7 +113,7 @@ returns-then-is_held-2 c =
     let place = c.args.n.place in
     let own = c.progress_of-own.result in
     let held = held_here test edges marks t place true c.requires.here
-    (sym c.if-is_held-2.true ∙ c.is_held-2.ensures) in
+    (sym c.if-is_held-2.true ∙ c.is_held-in-None-oldest.ensures) in
     waits_for test edges marks t place _ c.requires.here c.in-Exchange.ensures (λ can. true≢false (sym held ∙ can.1))
 
 pub returns-else-is_held-2 : goal.returns-else-is_held-2
@@ -127,7 +127,7 @@ returns-else-is_held-2 c =
     let place = c.args.n.place in
     let own = c.progress_of-own.result in
     let free = held_here test edges marks t place false c.requires.here
-    (sym c.if-is_held-2.false ∙ c.is_held-2.ensures) in
+    (sym c.if-is_held-2.false ∙ c.is_held-in-None-oldest.ensures) in
     let none = none_own test course.threads.items t own c.progress_of-own.ensures c.in-None-oldest.ensures in
     let value = c.requires.course.memory c.location-loc.result c.location-loc.ensures.limit
     ∙ ap (after_all test initial events).memory c.location-loc.ensures.is in

@@ -3,6 +3,7 @@ use Rattle.x86_subset.specs.Test.{body_of}
 use Rattle.seq_conv.proofs.Numbering.{body_short}
 use Rattle.run_judge.specs.Judgement.{event_of}
 use Rattle.order_run.specs.Course.{drains}
+use Rattle.order_run.proofs.Held.{small_place}
 use Rattle.order_run.proofs.Steps.{done_within, oldest_own}
 use Rattle.order_run.proofs.next.drain_of.Goals as goal
 
@@ -12,6 +13,15 @@ oldest-requires-clause-within c =
     let d = done_within c.args.test.now c.args.edges.now course.threads.items course.memory
     (map event_of course.events.items) c.args.t c.requires.course in
     let same = ap (λ (m : _). m.done) c.progress_of.ensures in
+    omega arith
+
+pub overflow_add-t : goal.overflow_add-t
+overflow_add-t c =
+    let o = c.in-Some.ensures.1 in
+    let p = small_place c.args.test.now c.args.t c.in-Some.place c.in-Some.ensures.0 c.threads-threads.ensures.test
+    o.stands in
+    let few = c.threads-threads.ensures.test.few_threads in
+    let l = c.requires.thread in
     omega arith
 
 pub returns-else-is_held : goal.returns-else-is_held

@@ -17,7 +17,7 @@ progress_after-own-requires-clause-done c =
     let d = done_within test c.args.edges.now course.threads.items course.memory (map event_of course.events.items)
     c.args.event.thread c.requires.course in
     let same = ap (λ m. m.done) c.progress_of.ensures in
-    let b = body_short test c.args.event.thread c.threads-_threads.ensures.test in
+    let b = body_short test c.args.event.thread c.threads-threads.ensures.test in
     omega arith
 
 pub progress_after-own-requires-clause-place : goal.progress_after-own-requires-clause-place
@@ -25,22 +25,22 @@ progress_after-own-requires-clause-place c =
     let test = c.args.test.now in
     let course = c.args.course.now in
     let a = able test c.args.edges.now course.threads.items course.memory (map event_of course.events.items)
-    (event_of c.args.event) c.threads-_threads.ensures.test c.requires.course c.requires.next in
+    (event_of c.args.event) c.threads-threads.ensures.test c.requires.course c.requires.next in
     let p = a.place in
-    let b = body_short test c.args.event.thread c.threads-_threads.ensures.test in
+    let b = body_short test c.args.event.thread c.threads-threads.ensures.test in
     omega arith
 
 pub location-loc-requires-clause-place : goal.location-loc-requires-clause-place
 location-loc-requires-clause-place c =
     let course = c.args.course.now in
     (able c.args.test.now c.args.edges.now course.threads.items course.memory (map event_of course.events.items)
-    (event_of c.args.event) c.threads-_threads.ensures.test c.requires.course c.requires.next).place
+    (event_of c.args.event) c.threads-threads.ensures.test c.requires.course c.requires.next).place
 
 pub value-requires-clause-place : goal.value-requires-clause-place
 value-requires-clause-place c =
     let course = c.args.course.now in
     let a = able c.args.test.now c.args.edges.now course.threads.items course.memory (map event_of course.events.items)
-    (event_of c.args.event) c.threads-_threads.ensures.test c.requires.course c.requires.next in
+    (event_of c.args.event) c.threads-threads.ensures.test c.requires.course c.requires.next in
     (row_place c.args.test.now c.args.sequences.now c.args.event.thread c.args.event.place c.requires.same a.thread
     a.place).1
 
@@ -50,7 +50,7 @@ returns-then-is_write-clause-course c =
     let course = c.args.course.now in
     let e = event_of c.args.event in
     let events = map event_of course.events.items in
-    let a = able test c.args.edges.now course.threads.items course.memory events e c.threads-_threads.ensures.test
+    let a = able test c.args.edges.now course.threads.items course.memory events e c.threads-threads.ensures.test
     c.requires.course c.requires.next in
     let writes = sym c.is_write.ensures ∙ c.if-is_write.true in
     let value = c.value.ensures ∙ value_written test c.args.sequences.now e c.requires.same
@@ -68,7 +68,7 @@ returns-then-is_write-clause-less c =
     let course = c.args.course.now in
     let e = event_of c.args.event in
     let events = map event_of course.events.items in
-    let a = able test c.args.edges.now course.threads.items course.memory events e c.threads-_threads.ensures.test
+    let a = able test c.args.edges.now course.threads.items course.memory events e c.threads-threads.ensures.test
     c.requires.course c.requires.next in
     step_less test c.args.edges.now course.threads.items course.memory events e c.progress_after-own.result
     c.requires.course a (c.progress_after-own.ensures ∙ ap (mark_then e.kind e.place) c.progress_of.ensures)
@@ -79,7 +79,7 @@ returns-else-is_write-clause-course c =
     let course = c.args.course.now in
     let e = event_of c.args.event in
     let events = map event_of course.events.items in
-    let a = able test c.args.edges.now course.threads.items course.memory events e c.threads-_threads.ensures.test
+    let a = able test c.args.edges.now course.threads.items course.memory events e c.threads-threads.ensures.test
     c.requires.course c.requires.next in
     course_step test c.args.edges.now course.threads.items course.memory events e c.progress_after-own.result _ _
     c.requires.course a (c.progress_after-own.ensures ∙ ap (mark_then e.kind e.place) c.progress_of.ensures)
@@ -93,7 +93,7 @@ returns-else-is_write-clause-less c =
     let course = c.args.course.now in
     let e = event_of c.args.event in
     let events = map event_of course.events.items in
-    let a = able test c.args.edges.now course.threads.items course.memory events e c.threads-_threads.ensures.test
+    let a = able test c.args.edges.now course.threads.items course.memory events e c.threads-threads.ensures.test
     c.requires.course c.requires.next in
     step_less test c.args.edges.now course.threads.items course.memory events e c.progress_after-own.result
     c.requires.course a (c.progress_after-own.ensures ∙ ap (mark_then e.kind e.place) c.progress_of.ensures)
