@@ -64,7 +64,7 @@ is_some_cond true h = refl
 is_some_cond false h = refl
 
 -- it is hidden where the atom names a hidden store
-kind_hides : (test : LitmusTest) (kind : AtomKind) → Tells test kind
+pub kind_hides : (test : LitmusTest) (kind : AtomKind) → Tells test kind
     → is_hidden_source test (reading_of test kind) ≡ is_hidden test kind
 kind_hides test (Rf t column w p) tells =
     let s : Node = record { thread = w; place = p } in

@@ -3,3 +3,4 @@ pub mod Graphs
 pub mod Adding
 pub mod Fronted
 pub mod Runs
+pub mod Conjoined
