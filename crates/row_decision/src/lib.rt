@@ -34,4 +34,6 @@ pub use reading::Reading;
 pub use show::{Showing, Shown, show_readings};
 
 #[cfg(test)]
+mod shown_tests;
+#[cfg(test)]
 mod tests;

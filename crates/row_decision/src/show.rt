@@ -1,6 +1,8 @@
 //! Readings shown by a run.
-ghost use Rattle.std.specs.Prelude.{IfOk, map};
+ghost use Rattle.std.specs.Prelude.{◌++◌, IfOk, MatchOption, map};
 ghost use Rattle.seq_conv.specs.Numbers.{AreOf};
+ghost use Rattle.run_judge.specs.Judgement.{event_of};
+ghost use Rattle.order_run.specs.Along.{HasCycle, IsRunAlong};
 ghost use Rattle.once.specs.Sources.{AreReadings};
 ghost use Rattle.row_decision.specs.Seen.{seen};
 ghost use Rattle.row_decision.specs.Shown.{IsShowing};
@@ -8,7 +10,7 @@ ghost use Rattle.row_decision.specs.Shown.{IsShowing};
 use crate::decide::hidden;
 use crate::graph::{choices_of, edges_of};
 use crate::reading::Reading;
-use choice_search::{Outcome, Tree, decide};
+use choice_search::{Outcome, Pair, Tree, decide};
 use order_run::run_along;
 use perp_base::NoMemory;
 use run_judge::RunEvent;
@@ -33,6 +35,22 @@ pub struct Showing {
     pub steps: u64,
 }
 
+/// The run along the edges of readings and the sides that the search took.
+fn run_of(
+    alloc: Global,
+    test: &Test,
+    sequences: &Sequences,
+    mut edges: Vec<Pair>,
+    sides: &[Pair],
+) -> Result<Option<Vec<RunEvent>>, NoMemory>
+    requires { AreOf test.now sequences.now }
+    ensures { IfOk result (λ made. MatchOption made (HasCycle test.now (edges.items ++ sides.now))
+        (λ run. IsRunAlong test.now (edges.items ++ sides.now) (map event_of run.items))) }
+{
+    edges.extend_from_slice(sides)?;
+    run_along(alloc, test, sequences, &edges)
+}
+
 /// As `decide_readings`, with the run itself. The sequences are those of the test.
 pub fn show_readings(
     alloc: Global,
@@ -52,20 +70,25 @@ pub fn show_readings(
             steps: 0,
         });
     }
-    let mut edges = edges_of(alloc, test, readings)?;
+    let edges = edges_of(alloc, test, readings)?;
     let choices = choices_of(alloc, test, sequences, readings)?;
     let found = decide(alloc, &edges, &choices, most)?;
     let steps = found.steps;
-    let shown = match found.outcome {
-        Outcome::Sides(sides) => {
-            edges.extend_from_slice(&sides)?;
-            match run_along(alloc, test, sequences, &edges)? {
-                Some(run) => Shown::Run(run),
-                None => unreachable!(),
-            }
-        }
-        Outcome::Refuted(tree) => Shown::Refuted(tree),
-        Outcome::GaveUp => Shown::GaveUp,
-    };
-    Ok(Showing { shown, steps })
+    match found.outcome {
+        Outcome::Sides(sides) => match run_of(alloc, test, sequences, edges, &sides)? {
+            Some(run) => Ok(Showing {
+                shown: Shown::Run(run),
+                steps,
+            }),
+            None => unreachable!(),
+        },
+        Outcome::Refuted(tree) => Ok(Showing {
+            shown: Shown::Refuted(tree),
+            steps,
+        }),
+        Outcome::GaveUp => Ok(Showing {
+            shown: Shown::GaveUp,
+            steps,
+        }),
+    }
 }
