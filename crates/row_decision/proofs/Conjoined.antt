@@ -1,5 +1,5 @@
 -- What is shown of the readings of a conjunction is shown of the conjunction.
-use Rattle.std.proofs.Common.{◌≡◌, ℕ, zero, suc, ◌+◌, ◌≤◌, true, None, Option, Some, List, [], ◌∷◌, ◌++◌, length, map, slice_get, refl, sym, ap, ◌∙◌, arith, subst}
+use Rattle.std.proofs.Common.{◌≡◌, ℕ, zero, suc, ◌+◌, ◌≤◌, true, None, Option, Some, Result, Ok, Err, IfOk, List, [], ◌∷◌, ◌++◌, length, map, slice_get, refl, sym, ap, ◌∙◌, arith, subst}
 use Rattle.std.proofs.lemmas.List.{map-append}
 use Rattle.std.specs.List.{AllByRecursion as Each, list_any, slice_range}
 use Rattle.x86_subset.specs.Test.{LitmusTest}
@@ -92,3 +92,12 @@ conjunction_shown checked c most showing h s = record {
   within = s.within;
   shown = shown_of checked c most showing.steps showing.shown h s.shown;
 }
+
+pub ok_shown : {E : Type 0} (checked : CheckedTest) (c most : ℕ) (test : LitmusTest) (readings : List Reading)
+    (r : Result Showing E) → IsChecked checked → test ≡ checked.test → readings ≡ readings_in checked c
+    → IfOk r (IsShowing test readings most) → IfOk r (IsConjunctionShown checked c most)
+ok_shown checked c most test readings (Ok s) h t e k =
+    let P : LitmusTest → Type 0 = λ z. IsShowing z readings most s in
+    let Q : List Reading → Type 0 = λ l. IsShowing checked.test l most s in
+    conjunction_shown checked c most s h (subst Q e (subst P t k))
+ok_shown checked c most test readings (Err x) h t e k = k

@@ -29,11 +29,11 @@ use Rattle.row_decision.proofs.Numbers.{AreNodes, number_node}
 pub record HasSides (test : LitmusTest) (readings : List Reading) (edges : List PairOf) (choices : List ChoiceOf)
     (sides : List PairOf) : Type 0 where
   pub within : IsTest test
-  pub readings : AreReadings test readings
+  pub are : AreReadings test readings
   pub hides : HidesNone test readings
-  pub edges : AreEdges test readings edges
-  pub choices : AreChoices test readings choices
-  pub sides : AllZip IsSide choices sides
+  pub listed : AreEdges test readings edges
+  pub offered : AreChoices test readings choices
+  pub taken : AllZip IsSide choices sides
   pub none : HasNoCycle edges sides
 
 -- the edges of the readings and the sides, between spots
@@ -73,16 +73,16 @@ stands : (test : LitmusTest) (readings : List Reading) (edges : List PairOf) (ch
     → StandFor (edges ++ sides) (leads test readings sides)
 stands test readings edges choices sides h a b =
     let E = edge_among test readings (map pair_seen sides) in
-    let nodes = side_nodes test choices sides h.sides (choice_nodes test readings choices h.readings h.choices) in
+    let nodes = side_nodes test choices sides h.taken (choice_nodes test readings choices h.are h.offered) in
     let P : ℕ → ℕ → Type 0 = λ x y. edge_in edges sides x y ≡ true in
     pairs_joined edges sides a b
     ∙ both_same (edge_in edges sides a b) (E (node_at a) (node_at b))
-    (edge_down test readings edges sides h.edges nodes a b)
+    (edge_down test readings edges sides h.listed nodes a b)
     (λ e.
     let Q : ℕ → Type 0 = λ x. P x (number_of (node_at b)) in
     let R : ℕ → Type 0 = λ y. P a y in
     subst R (number_node b) (subst Q (number_node a)
-    (edge_up test readings edges sides h.within h.edges (node_at a) (node_at b) e)))
+    (edge_up test readings edges sides h.within h.listed (node_at a) (node_at b) e)))
 
 -- there is a run along them
 pub none_closed : (test : LitmusTest) (readings : List Reading) (edges : List PairOf) (choices : List ChoiceOf)
@@ -94,7 +94,7 @@ none_closed test readings edges choices sides h cycle =
     (order_between test E (order_among test readings taken)) in
     let nodes = map at_node c.0 in
     both_ways (is_cycle_of (edge_in edges sides) (map number_of nodes)) (h.none (map number_of nodes))
-    (cycle_up E (edge_in edges sides) (edge_up test readings edges sides h.within h.edges) nodes
+    (cycle_up E (edge_in edges sides) (edge_up test readings edges sides h.within h.listed) nodes
     (cycle_between E c.0 c.1))
 
 -- and it has all sources
@@ -106,8 +106,8 @@ run_has test readings edges choices sides run h along =
     let all = choices_among test readings in
     let E = edge_among test readings taken in
     let P : List Choice → Type 0 = λ l. AllZip IsSideOf l taken in
-    let zip : P all = subst P h.choices (sides_up choices sides h.sides) in
-    let draws = draws_among test readings taken h.readings h.hides
+    let zip : P all = subst P h.offered (sides_up choices sides h.taken) in
+    let draws = draws_among test readings taken h.are h.hides
     (λ choice a. each_among (IsTaken taken) choice all a (sides_taken all taken taken zip (λ p b. b))) in
     let values : HasValues test readings run = wants_all test readings run along.legal
     (along.wants (leads test readings sides) (wanted_by test readings)
@@ -116,7 +116,7 @@ run_has test readings edges choices sides run h along =
       sources = (
         along.legal,
         each_from_among (HasSource test run) readings (λ r am. made_has test readings r (run, along.legal, values) am
-            (each_among (IsReading test) r readings am h.readings)),
+            (each_among (IsReading test) r readings am h.are)),
       );
       values = values;
     }
