@@ -120,3 +120,23 @@ run_has test readings edges choices sides run h along =
       );
       values = values;
     }
+
+-- the search's answer, as the code has it
+pub has_sides : (test : LitmusTest) (readings : List Reading) (edges de : List PairOf) (choices dc : List ChoiceOf)
+    (sides ds : List PairOf) → IsTest test → AreReadings test readings → HidesNone test readings
+    → AreEdges test readings edges → AreChoices test readings choices → de ≡ edges → dc ≡ choices → ds ≡ sides
+    → AllZip IsSide dc ds × HasNoCycle de ds → HasSides test readings edges choices sides
+has_sides test readings edges de choices dc sides ds is are hides es cs e f g h =
+    let P : List ChoiceOf → Type 0 = λ l. AllZip IsSide l ds in
+    let Q : List PairOf → Type 0 = λ l. AllZip IsSide choices l in
+    let R : List PairOf → Type 0 = λ l. HasNoCycle l ds in
+    let S : List PairOf → Type 0 = λ l. HasNoCycle edges l in
+    record {
+      within = is;
+      are = are;
+      hides = hides;
+      listed = es;
+      offered = cs;
+      taken = subst Q g (subst P f h.0);
+      none = subst S g (subst R e h.1);
+    }
