@@ -1,7 +1,7 @@
 -- What is shown of the readings of a conjunction is shown of the conjunction.
-use Rattle.std.proofs.Common.{◌≡◌, ℕ, zero, suc, ◌+◌, ◌≤◌, true, None, Option, Some, Result, Ok, Err, IfOk, List, [], ◌∷◌, ◌++◌, length, map, slice_get, refl, sym, ap, ◌∙◌, arith, subst}
+use Rattle.std.proofs.Common.{◌≡◌, ℕ, zero, suc, ◌+◌, ◌≤◌, true, Some, Result, Ok, Err, IfOk, List, [], ◌∷◌, ◌++◌, map, slice_get, refl, sym, ap, ◌∙◌, subst}
 use Rattle.std.proofs.lemmas.List.{map-append}
-use Rattle.std.specs.List.{AllByRecursion as Each, list_any, slice_range}
+use Rattle.std.specs.List.{slice_range}
 use Rattle.x86_subset.specs.Test.{LitmusTest}
 use Rattle.perp_base.proofs.Lists.{Among, each_among}
 use Rattle.profile_check.specs.Profile.{CheckedTest, IsChecked}

@@ -1,5 +1,5 @@
 -- What the search finds of the graph of readings holds of the test.
-use Rattle.std.proofs.Common.{◌≡◌, eq-eqb, ℕ, ◌==◌, ◌&&◌, ◌||◌, Bool, true, false, Contains, List, [], ◌∷◌, map, Option, None, Some, slice_get, refl, sym, ap, ◌∙◌, subst, inl, inr, ◌⊎◌}
+use Rattle.std.proofs.Common.{◌≡◌, eq-eqb, ℕ, ◌==◌, ◌||◌, Bool, true, false, Contains, List, [], ◌∷◌, map, Some, slice_get, sym, ap, ◌∙◌, subst, inl, inr, ◌⊎◌}
 use Rattle.std.proofs.lemmas.Bool.{and_from, and_parts, both_ways, cases_Bool, eqb-true, or_cases, or_left, or_right}
 use Rattle.std.specs.List.{AllByRecursion as Each, AllZip, list_any}
 use Rattle.x86_subset.specs.Shape.{IsTest}
@@ -17,8 +17,8 @@ use Rattle.choice_search.specs.Graph.{HasNoCycle, has_pair, is_cycle_of, is_path
 use Rattle.choice_search.specs.Graph.{IsSideOf as IsSide, edge_among as edge_in, is_pair as is_pair_of, before_source as before_of, after_reader as after_of}
 use Rattle.choice_search.specs.Trees.{Refutes}
 use Rattle.choice_search.proofs.Finds.{any_get}
-use Rattle.once.specs.Edges.{Choice, IsSideOf, Pair, Reading, after_reader, asks_of, before_source, choices_among, edge_among, is_pair}
-use Rattle.once.specs.Sources.{AreReadings, HasSources, HidesNone, is_hidden_source}
+use Rattle.once.specs.Edges.{Choice, IsSideOf, Pair, Reading, asks_of, edge_among, is_pair}
+use Rattle.once.specs.Sources.{AreReadings, HidesNone, is_hidden_source}
 use Rattle.once.specs.Trees.{RefutesAmong}
 use Rattle.once.proofs.Drawing.{EdgeIs, edge_from, edge_is}
 use Rattle.once.proofs.Sourced.{hidden_sources_are_not_read_lem, no_cycle_has_sources_lem, trees_forbid_sources_lem}

@@ -1,19 +1,18 @@
 -- The run along the edges and the sides that the search took has all sources.
-use Rattle.std.proofs.Common.{◌≡◌, ℕ, ◌||◌, Bool, true, false, List, [], ◌∷◌, ◌++◌, map, refl, sym, ap, ◌∙◌, subst, inl, inr, ◌⊎◌}
+use Rattle.std.proofs.Common.{◌≡◌, ℕ, ◌||◌, Bool, true, false, List, [], ◌∷◌, ◌++◌, map, refl, sym, ap, ◌∙◌, subst, inl, inr}
 use Rattle.std.proofs.lemmas.Bool.{both_ways}
-use Rattle.std.specs.List.{AllByRecursion as Each, AllZip, list_any}
+use Rattle.std.specs.List.{AllByRecursion as Each, AllZip}
 use Rattle.x86_subset.specs.Shape.{IsTest}
 use Rattle.x86_subset.specs.Test.{LitmusTest}
 use Rattle.tso_machine.specs.Event.{Event}
 use Rattle.perp_base.proofs.Lists.{each_among, each_from_among}
-use Rattle.verdict.specs.declared.node.Node.{Node}
 use Rattle.choice_search.specs.declared.graph.Pair.{Pair as PairOf}
 use Rattle.choice_search.specs.declared.graph.Choice.{Choice as ChoiceOf}
 use Rattle.choice_search.specs.Graph.{HasNoCycle, has_pair, is_cycle_of}
-use Rattle.choice_search.specs.Graph.{IsSideOf as IsSide, edge_among as edge_in, is_pair as is_pair_of, before_source as before_of, after_reader as after_of}
+use Rattle.choice_search.specs.Graph.{IsSideOf as IsSide, edge_among as edge_in, is_pair as is_pair_of}
 use Rattle.order_run.specs.Along.{HasCycle, IsRunAlong, StandFor}
 use Rattle.run_orders.specs.Orders.{Spot}
-use Rattle.once.specs.Edges.{Choice, IsSideOf, Pair, Reading, choices_among, edge_among}
+use Rattle.once.specs.Edges.{Choice, IsSideOf, Reading, choices_among, edge_among}
 use Rattle.once.specs.Sources.{AreReadings, HasSource, HasValues, HidesNone, IsReading}
 use Rattle.once.proofs.Deciding.{sides_taken}
 use Rattle.once.proofs.Drawing.{IsTaken, order_among}

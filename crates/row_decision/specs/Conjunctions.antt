@@ -1,6 +1,6 @@
 -- What is shown of a conjunction of a checked test, which is its outcome in executions of the test as it is written.
 -- This project's own.
-use Rattle.std.specs.Prelude.{◌≡◌, ℕ, ◌≤◌, true, List, [], Some, map, slice_get}
+use Rattle.std.specs.Prelude.{◌≡◌, ℕ, ◌≤◌, true, [], Some, map, slice_get}
 use Rattle.profile_check.specs.Profile.{CheckedTest}
 use Rattle.profile_check.specs.declared.kind.AtomKind.{AtomKind}
 use Rattle.run_judge.specs.Judgement.{event_of}

@@ -66,11 +66,7 @@ fn reading_of(test: &Test, kind: AtomKind) -> Reading
 }
 
 /// What the atoms of a conjunction say, in order.
-fn readings_in(
-    alloc: Global,
-    checked: &Checked,
-    conjunction: u32,
-) -> Result<Vec<Reading>, NoMemory>
+fn readings_in(alloc: Global, checked: &Checked, conjunction: u32) -> Result<Vec<Reading>, NoMemory>
     requires { conjunction < length checked.now.test.ends }
     ensures { IfOk result (λ readings. map seen readings.items ≡ readings_in checked.now conjunction) }
 {

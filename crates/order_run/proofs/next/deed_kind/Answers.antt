@@ -133,4 +133,3 @@ returns-else-is_held-2 c =
     ∙ ap (after_all test initial events).memory c.location-loc.ensures.is in
     acts_now test edges marks events t place _ (Exchanged (get_or course.memory c.location-loc.result 0))
     c.requires.thread c.requires.here c.in-Exchange.ensures (none, free) (ap (λ v. Exchanged v) value)
-
