@@ -1,11 +1,9 @@
 -- What edges between the nodes of a test say of reads and their sources.
-use Rattle.std.proofs.Common.{◌≡◌, ℕ, ◌<◌, ◌≤◌, ◌==◌, Bool, true, false, Contains, Option, None, Some, List, ◌∙◌, sym, ap, ◌⊎◌, unwrap_or, option_and_then}
+use Rattle.std.proofs.Common.{◌≡◌, ℕ, ◌<◌, ◌≤◌, ◌==◌, Bool, true, Some, ◌∙◌, sym, ap, ◌⊎◌, unwrap_or, option_and_then}
 use Rattle.std.proofs.lemmas.Bool.{eqb-true}
 use Rattle.x86_subset.specs.Instr.{is_reading, is_store_to, location_of}
 use Rattle.x86_subset.specs.Test.{LitmusTest, body_of}
 use Rattle.x86_subset.specs.declared.instr.Instr.{Instr}
-use Rattle.tso_machine.specs.Event.{Event, is_drain}
-use Rattle.tso_machine.specs.Log.{value_read}
 use Rattle.seq_conv.specs.Sequence.{action_at, rank_of, site_location}
 use Rattle.verdict.specs.declared.node.Node.{Node}
 use Rattle.verdict.specs.Edges.{is_access, is_barred, keeps, site}

@@ -1,8 +1,7 @@
 -- What edges hold back, by pairs of numbers and by a relation of spots.
-use Rattle.std.proofs.Common.{◌≡◌, ℕ, ◌+◌, ◌*◌, ◌/◌, ◌%◌, ◌<◌, ◌≤◌, ◌==◌, ◌&&◌, Bool, true, false, cond, nat_le, le-leb, Option, None, Some, List, length, slice_get, refl, sym, ap, ◌∙◌, arith, subst, inl, inr, ◌⊎◌, eq-eqb}
+use Rattle.std.proofs.Common.{◌≡◌, ℕ, ◌+◌, ◌*◌, ◌/◌, ◌%◌, ◌<◌, ◌≤◌, ◌==◌, Bool, true, false, cond, nat_le, le-leb, Option, None, Some, List, length, slice_get, refl, sym, ap, ◌∙◌, arith, subst, inl, inr, ◌⊎◌, eq-eqb}
 use Rattle.std.proofs.lemmas.Bool.{and_from, and_parts, both_ways, cases_lt, eqb-true, false_from_ne_true, leb-true, true≢false}
 use Rattle.std.proofs.lemmas.Option.{slice_get_within}
-use Rattle.std.specs.List.{list_any}
 use Rattle.x86_subset.specs.Shape.{IsTest}
 use Rattle.x86_subset.specs.Test.{LitmusTest, body_of}
 use Rattle.x86_subset.specs.declared.instr.Instr.{Instr}
@@ -20,7 +19,7 @@ use Rattle.choice_search.specs.declared.graph.Pair.{Pair}
 use Rattle.choice_search.specs.Graph.{has_pair, is_pair}
 use Rattle.run_orders.specs.Course.{IsOldest, IsOpen, StoresNone}
 use Rattle.run_orders.specs.Orders.{Spot}
-use Rattle.run_orders.proofs.Begun.{IsFree, one_slot, spot}
+use Rattle.run_orders.proofs.Begun.{IsFree, spot}
 use Rattle.run_orders.proofs.Chances as orders
 use Rattle.order_run.specs.Along.{StandFor, spot_at}
 use Rattle.order_run.specs.Course.{CanDo, IsHeld, IsWaiting, holds_back, is_held, is_late, is_open}

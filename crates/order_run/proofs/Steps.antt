@@ -1,5 +1,5 @@
 -- What is kept of a run along edges, as the code has it.
-use Rattle.std.proofs.Common.{◌≡◌, ℕ, zero, suc, ◌+◌, ◌*◌, ◌/◌, ◌%◌, ◌<◌, ◌≤◌, ◌==◌, ◌&&◌, Bool, true, false, cond, None, Some, List, [], ◌∷◌, ◌++◌, length, map, set, get_or, slice_get, replicate, refl, sym, ap, ◌∙◌, arith, subst, inl, inr, ◌⊎◌, All, eq-eqb, ne_eqb, get_or-set_other, get_or-set_same, length-set, unwrap_or}
+use Rattle.std.proofs.Common.{◌≡◌, ℕ, zero, suc, ◌+◌, ◌*◌, ◌<◌, ◌≤◌, ◌==◌, ◌&&◌, Bool, true, false, cond, Some, List, [], ◌∷◌, ◌++◌, length, map, set, get_or, slice_get, replicate, refl, sym, ap, ◌∙◌, arith, subst, inl, inr, ◌⊎◌, eq-eqb, ne_eqb, get_or-set_other, get_or-set_same, length-set, unwrap_or}
 use Rattle.std.proofs.lemmas.Bool.{cases_eq, true≢false}
 use Rattle.std.proofs.lemmas.List.{get_or-replicate, length-replicate}
 use Rattle.std.proofs.lemmas.List.Elements.{All-from_recursion}
@@ -12,7 +12,6 @@ use Rattle.tso_machine.specs.Machine.{State, after_all, initial, newest, readabl
 use Rattle.tso_machine.specs.Part.{Slot}
 use Rattle.tso_machine.specs.Source.{is_memory_kind}
 use Rattle.tso_machine.proofs.Runs.{memory_after_event}
-use Rattle.seq_conv.specs.Numbers.{AreOf, Table, value_at}
 use Rattle.seq_conv.specs.Sequence.{site_location}
 use Rattle.run_witness.specs.Marks.{Mark, is_storing, loop_of, waiting}
 use Rattle.run_witness.specs.Stage.{slot_write}
@@ -21,19 +20,18 @@ use Rattle.run_witness.proofs.Slots.{loop_length, slot_at}
 use Rattle.run_witness.proofs.Stands.{fresh}
 use Rattle.decision.specs.Course.{IsOfStore}
 use Rattle.decision.proofs.Asks.{loop_slot}
-use Rattle.decision.proofs.Courses.{value_written}
 use Rattle.decision.proofs.Nexts.{slot_action, slot_place}
 use Rattle.choice_search.specs.declared.graph.Pair.{Pair}
 use Rattle.choice_search.specs.Graph.{has_pair}
 use Rattle.run_orders.specs.Course.{Begun, IsOldest, StoresNone, kind_now, mark_then, total}
-use Rattle.run_orders.specs.Orders.{AllDraw, Draws, IsWanted, KeepsOrder, Spot}
+use Rattle.run_orders.specs.Orders.{AllDraw, IsWanted, Spot}
 use Rattle.run_orders.proofs.Begun.{begun_step, marks_then, one_slot}
 use Rattle.run_orders.proofs.Chances.{goes_act}
 use Rattle.run_orders.proofs.Going.{Goes, goes_drain}
 use Rattle.run_orders.proofs.Gone.{deed, total_less}
 use Rattle.run_orders.proofs.Making.{AllEnded, Closed, all_ended, begun_begins, stuck_ends}
 use Rattle.order_run.specs.declared.course.Progress.{Progress}
-use Rattle.order_run.specs.Along.{HasCycle, IsRunAlong, StandFor, spot_at}
+use Rattle.order_run.specs.Along.{HasCycle, IsRunAlong, StandFor}
 use Rattle.order_run.specs.Course.{AreEnded, CanDo, IsHeld, IsKept, IsNext, IsWaiting, acts, deed_event, drains, is_held, mark_of, marks_of}
 use Rattle.order_run.proofs.Held.{can_from, free_from, none_goes, number_spot, small_place}
 

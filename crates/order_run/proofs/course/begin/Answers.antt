@@ -1,5 +1,4 @@
-use Rattle.std.proofs.Common.{length, map, ap, refl, ◌∙◌}
-use Rattle.x86_subset.specs.Test.{LitmusTest}
+use Rattle.std.proofs.Common.{map, ap, refl}
 use Rattle.run_judge.specs.Judgement.{event_of}
 use Rattle.order_run.proofs.Steps.{course_begins}
 use Rattle.order_run.proofs.course.begin.Goals as goal

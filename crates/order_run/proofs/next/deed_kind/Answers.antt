@@ -1,4 +1,4 @@
-use Rattle.std.proofs.Common.{◌≡◌, ◌∙◌, ℕ, Some, ap, arith, false, get_or, map, refl, sym, true, unwrap_or}
+use Rattle.std.proofs.Common.{◌∙◌, ap, arith, false, get_or, map, refl, sym, true, unwrap_or}
 use Rattle.std.proofs.lemmas.Bool.{true≢false}
 use Rattle.tso_machine.specs.Event.{Push, Read, Fenced, Exchanged}
 use Rattle.tso_machine.specs.Machine.{after_all, initial, readable}

@@ -1,5 +1,4 @@
-use Rattle.std.proofs.Common.{◌≡◌, ◌∙◌, ap, arith, length, map}
-use Rattle.x86_subset.specs.Test.{body_of}
+use Rattle.std.proofs.Common.{ap, arith, length, map}
 use Rattle.run_judge.specs.Judgement.{event_of}
 use Rattle.order_run.proofs.Steps.{done_within}
 use Rattle.order_run.proofs.next.deed_of.Goals as goal

@@ -1,6 +1,4 @@
-use Rattle.std.proofs.Common.{◌≡◌, ◌∙◌, ap, arith, length, map, refl, sym}
-use Rattle.x86_subset.specs.Test.{body_of}
-use Rattle.seq_conv.proofs.Numbering.{body_short}
+use Rattle.std.proofs.Common.{◌∙◌, ap, arith, map, refl, sym}
 use Rattle.run_judge.specs.Judgement.{event_of}
 use Rattle.order_run.specs.Course.{drains}
 use Rattle.order_run.proofs.Held.{small_place}

@@ -1,4 +1,3 @@
-use Rattle.std.proofs.Common.{arith}
 use Rattle.decision.proofs.Courses.{more_held}
 use Rattle.order_run.specs.Course.{IsHeld, marks_of}
 use Rattle.order_run.proofs.next.next_event.Goals as goal

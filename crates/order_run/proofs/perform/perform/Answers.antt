@@ -1,7 +1,5 @@
-use Rattle.std.proofs.Common.{◌≡◌, ◌<◌, ◌∙◌, [], ◌∷◌, ap, arith, length, length-set, map, sym}
+use Rattle.std.proofs.Common.{◌∙◌, [], ◌∷◌, ap, arith, length-set, map, sym}
 use Rattle.std.proofs.lemmas.List.{map-append}
-use Rattle.x86_subset.specs.Test.{LitmusTest, body_of}
-use Rattle.seq_conv.specs.Sequence.{site_location}
 use Rattle.seq_conv.proofs.Numbering.{body_short}
 use Rattle.run_judge.specs.Judgement.{event_of}
 use Rattle.run_witness.proofs.Courses.{loud_words, quiet_words}
