@@ -224,7 +224,7 @@ same_event test before a b e h k =
     let r = is_right test 1 (done_by a.thread before) (s.buffer a.thread) (s.memory (event_location test a)) a h in
     let q = is_right test 1 (done_by b.thread before) (s.buffer b.thread) (s.memory (event_location test b)) b k in
     let next : ℕ → Event → Bool = λ u z. is_of_slot (slice_get (slots_of_loop (body_of test u) 1)
-        (done_by u before)) z in
+    (done_by u before)) z in
     let place : SamePlace a b = go (is_drain a) refl (ap is_drain_kind (sym kind)) (next a.thread a) (next b.thread b)
     r.next q.next
     (λ f g. same_by_slot (slice_get (slots_of_loop (body_of test a.thread) 1) (done_by a.thread before)) a b f

@@ -7,6 +7,7 @@ use Rattle.x86_subset.specs.Instr.{is_reading}
 use Rattle.x86_subset.specs.Test.{LitmusTest}
 use Rattle.x86_subset.specs.declared.instr.Instr.{Instr}
 use Rattle.tso_machine.specs.Event.{Event}
+use Rattle.tso_machine.specs.Run.{IsRunOf}
 use Rattle.seq_conv.specs.Sequence.{action_at, site_location, stores_of}
 use Rattle.seq_conv.proofs.Stores.{IsStoreOf, stores_are}
 use Rattle.perp_base.proofs.Lists.{Among, any_map, any_same, contains_from_among, among_from_contains, each_among, each_from_among}
@@ -26,9 +27,8 @@ use Rattle.decision.specs.Stage.{IsWanted as IsKindWanted, wanted as kind_wanted
 use Rattle.decision.proofs.Finish.{all_from, holds_wanted}
 use Rattle.once.specs.Edges.{Choice, Pair, choices_in, edge_once, reading_of, readings_in}
 use Rattle.once.specs.Laws.{HidesNothing, NoCycleIsShownOnce, TreeOrRun}
-use Rattle.once.specs.Sources.{AreReadings, HidesNone, IsReading, is_hidden_source, is_own_earlier, reads_of}
+use Rattle.once.specs.Sources.{HasValues, AreReadings, HidesNone, is_hidden_source, is_own_earlier, IsReading, IsWanted, reads_of, wanted}
 use Rattle.once.specs.Trees.{Refutes, Tree}
-use Rattle.once.proofs.Draws.{IsWanted, wanted}
 use Rattle.once.proofs.Deciding.{Decided, no_cycle_made, tree_or_made}
 use Rattle.once.proofs.Drawing.{IsTaken, among_map, writes_from}
 use Rattle.once.proofs.Forbidding.{each_mapped}
@@ -64,7 +64,7 @@ is_some_cond true h = refl
 is_some_cond false h = refl
 
 -- it is hidden where the atom names a hidden store
-kind_hides : (test : LitmusTest) (kind : AtomKind) → Tells test kind
+pub kind_hides : (test : LitmusTest) (kind : AtomKind) → Tells test kind
     → is_hidden_source test (reading_of test kind) ≡ is_hidden test kind
 kind_hides test (Rf t column w p) tells =
     let s : Node = record { thread = w; place = p } in
@@ -131,25 +131,27 @@ wants_kinds test kinds e h kind c drains t p v reads =
     (t ∙ sym (ap (λ (n : Node). n.thread) is)) (p ∙ sym (ap (λ (n : Node). n.place) is)) v reads
     ∙ kind_wants test kind
 
-made_shows : (checked : CheckedTest) (c : ℕ) → IsChecked checked → Made checked.test (readings_in checked c)
-    → (run : List Event) × Shows checked c run
-made_shows checked c h m =
+-- a run whose reads have these values shows the conjunction
+pub values_show : (checked : CheckedTest) (c : ℕ) (run : List Event) → IsChecked checked → IsRunOf checked.test 1 run
+    → HasValues checked.test (readings_in checked c) run → Shows checked c run
+values_show checked c run h legal values =
     let test = checked.test in
     let kinds = kinds_in checked c in
     let readings = readings_in checked c in
-    let H : AtomKind → Type 0 = λ kind. holds_in test m.0 (zeros test) kind ≡ true in
-    let reads : Each (IsKindWanted test kinds) m.0 = each_from_among (IsKindWanted test kinds) m.0 (λ e am.
-    wants_kinds test kinds e (each_among (IsWanted test readings) e m.0 am m.2)) in (
-      m.0,
-      (
-        m.1,
-        all_from (holds_in test m.0 (zeros test)) kinds (each_from_among H kinds (λ kind am.
-            holds_wanted test kinds m.0 kind m.1 reads am
-            (each_among (Tells test) kind kinds am (kinds_tell checked c h)))),
-      ),
+    let H : AtomKind → Type 0 = λ kind. holds_in test run (zeros test) kind ≡ true in
+    let reads : Each (IsKindWanted test kinds) run = each_from_among (IsKindWanted test kinds) run (λ e am.
+    wants_kinds test kinds e (each_among (IsWanted test readings) e run am values)) in (
+      legal,
+      all_from (holds_in test run (zeros test)) kinds (each_from_among H kinds (λ kind am.
+          holds_wanted test kinds run kind legal reads am
+          (each_among (Tells test) kind kinds am (kinds_tell checked c h)))),
     )
 
-hides_none : (checked : CheckedTest) (c : ℕ) → IsChecked checked → HidesNothing checked c
+made_shows : (checked : CheckedTest) (c : ℕ) → IsChecked checked → Made checked.test (readings_in checked c)
+    → (run : List Event) × Shows checked c run
+made_shows checked c h m = (m.0, values_show checked c m.0 h m.1 m.2)
+
+pub hides_none : (checked : CheckedTest) (c : ℕ) → IsChecked checked → HidesNothing checked c
     → HidesNone checked.test (readings_in checked c)
 hides_none checked c h hides = readings_hide checked c h ∙ hides
 

@@ -16,7 +16,7 @@ use Rattle.once.proofs.Showing.{run_or_cycle}
 
 -- Sides in a list.
 
-sides_taken : (cs : List Choice) (ps all : List Pair) → AllZip IsSideOf cs ps → ((p : Pair) → Among p ps → Among p all)
+pub sides_taken : (cs : List Choice) (ps all : List Pair) → AllZip IsSideOf cs ps → ((p : Pair) → Among p ps → Among p all)
     → Each (IsTaken all) cs
 sides_taken [] ps all z f = tt
 sides_taken (c ∷ cs) [] all z f = absurd z

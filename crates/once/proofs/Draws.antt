@@ -1,17 +1,16 @@
 -- What edges between the nodes of a test say of reads and their sources.
-use Rattle.std.proofs.Common.{◌≡◌, ℕ, ◌<◌, ◌≤◌, ◌==◌, Bool, true, false, Contains, Option, None, Some, List, ◌∙◌, sym, ap, ◌⊎◌, unwrap_or, option_and_then}
+use Rattle.std.proofs.Common.{◌≡◌, ℕ, ◌<◌, ◌≤◌, ◌==◌, Bool, true, Some, ◌∙◌, sym, ap, ◌⊎◌, unwrap_or, option_and_then}
 use Rattle.std.proofs.lemmas.Bool.{eqb-true}
 use Rattle.x86_subset.specs.Instr.{is_reading, is_store_to, location_of}
 use Rattle.x86_subset.specs.Test.{LitmusTest, body_of}
 use Rattle.x86_subset.specs.declared.instr.Instr.{Instr}
-use Rattle.tso_machine.specs.Event.{Event, is_drain}
-use Rattle.tso_machine.specs.Log.{value_read}
 use Rattle.seq_conv.specs.Sequence.{action_at, rank_of, site_location}
 use Rattle.verdict.specs.declared.node.Node.{Node}
 use Rattle.verdict.specs.Edges.{is_access, is_barred, keeps, site}
 use Rattle.run_witness.proofs.Reading.{store_stores}
 use Rattle.run_witness.proofs.Stands.{stores_at}
 use Rattle.once.specs.Edges.{Reading}
+use Rattle.once.specs.Sources.{wanted}
 
 -- edges that have kept order
 abbrev pub KeepsEdges : LitmusTest → (Node → Node → Bool) → Type 0
@@ -50,20 +49,6 @@ pub record FromStore (test : LitmusTest) (edge : Node → Node → Bool) (x : �
 pub record FromStart (test : LitmusTest) (edge : Node → Node → Bool) (x : ℕ) (r : Node) : Type 0 where
   pub after : (o : Node) → StoresAt test x o → (o ≡ r → ⊥) → edge r o ≡ true
   pub other : (o : Node) → StoresAt test x o → o.thread ≡ r.thread → o.place < r.place → ⊥
-
--- the value that is read, in one iteration: the rank of the source, or 0
-abbrev pub rank_wanted : LitmusTest → ℕ → Option Node → ℕ
-rank_wanted test x None = 0
-rank_wanted test x (Some s) = rank_of test x (site s)
-
-abbrev pub wanted : LitmusTest → Reading → ℕ
-wanted test r = rank_wanted test r.location r.source
-
--- an event of a reader reads this value
-abbrev pub IsWanted : LitmusTest → List Reading → Event → Type 0
-IsWanted test readings e =
-    (r : Reading) → Contains readings r → is_drain e ≡ false → e.thread ≡ r.reader.thread
-    → e.place ≡ r.reader.place → (v : ℕ) → value_read e ≡ Some v → v ≡ wanted test r
 
 -- what the edges say of a read
 pub record Draws (test : LitmusTest) (edge : Node → Node → Bool) (r : Reading) : Type 0 where

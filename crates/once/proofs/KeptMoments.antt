@@ -1,5 +1,5 @@
 -- The order of a run's moments has kept order.
-use Rattle.std.proofs.Common.{◌≡◌, ℕ, ◌+◌, ◌<◌, nat_lt, lt-ltb, true, false, Some, List, ◌∷◌, ◌++◌, length, slice_get, refl, sym, ◌∙◌, arith, subst, inl, inr, ◌⊎◌}
+use Rattle.std.proofs.Common.{◌≡◌, ℕ, ◌<◌, nat_lt, lt-ltb, true, false, Some, List, ◌∷◌, ◌++◌, length, slice_get, refl, sym, ◌∙◌, arith, subst, inl, inr, ◌⊎◌}
 use Rattle.std.proofs.lemmas.Bool.{cases_Bool}
 use Rattle.std.specs.List.{list_any}
 use Rattle.x86_subset.specs.Test.{LitmusTest, body_of}

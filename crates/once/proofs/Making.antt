@@ -24,7 +24,8 @@ use Rattle.run_orders.specs.Orders.{Spot}
 use Rattle.run_orders.specs.Orders as orders
 use Rattle.run_orders.proofs.Making.{run_along_lem}
 use Rattle.once.specs.Edges.{Reading}
-use Rattle.once.proofs.Draws.{Afar, Draws, FromStart, FromStore, IsWanted, KeepsEdges, Near, StoresAt, wanted}
+use Rattle.once.specs.Sources.{IsWanted, wanted}
+use Rattle.once.proofs.Draws.{Afar, Draws, FromStart, FromStore, KeepsEdges, Near, StoresAt}
 
 abbrev pub Made : LitmusTest → List Reading → Type 0
 Made test readings = (run : List Event) × IsRunOf test 1 run × Each (IsWanted test readings) run
@@ -34,20 +35,20 @@ Closed edge = (cycle : List Node) × (is_cycle_of edge cycle ≡ true)
 
 -- Nodes as places of a loop of one iteration.
 
-abbrev at_node : Spot → Node
+abbrev pub at_node : Spot → Node
 at_node a = record { thread = a.thread; place = a.index }
 
-abbrev spot_at : Node → Spot
+abbrev pub spot_at : Node → Spot
 spot_at n = record { thread = n.thread; index = n.place }
 
-abbrev between : (Node → Node → Bool) → Spot → Spot → Bool
+abbrev pub between : (Node → Node → Bool) → Spot → Spot → Bool
 between edge a b = edge (at_node a) (at_node b)
 
 action_in : (test : LitmusTest) (a : Spot) (s : Slot) → orders.slot_in test 1 a ≡ Some s
     → action_at test (site (at_node a)) ≡ Some s.action
 action_in test a s h = slot_action test a.thread a.index s h
 
-order_between : (test : LitmusTest) (edge : Node → Node → Bool) → KeepsEdges test edge
+pub order_between : (test : LitmusTest) (edge : Node → Node → Bool) → KeepsEdges test edge
     → orders.KeepsOrder test 1 (between edge)
 order_between test edge kept = record {
   reading = λ t p q a b l at bt r acc. kept t p q a.action b.action l (slot_action test t p a at)
@@ -109,10 +110,10 @@ store_between test edge x r f = (
         })
 
 -- what the readings want
-abbrev wants_at : LitmusTest → Spot → ℕ → Reading → Bool
+abbrev pub wants_at : LitmusTest → Spot → ℕ → Reading → Bool
 wants_at test a v q = same_node q.reader (at_node a) && (v == wanted test q)
 
-abbrev wanted_by : LitmusTest → List Reading → Spot → ℕ → Bool
+abbrev pub wanted_by : LitmusTest → List Reading → Spot → ℕ → Bool
 wanted_by test readings a v = list_any (wants_at test a v) readings
 
 draws_between : (test : LitmusTest) (edge : Node → Node → Bool) (q : Reading) → (d : Draws test edge q) → (v : ℕ)
@@ -136,7 +137,7 @@ draws_between test edge q d v e = record {
     go (inr f) =
         let k = store_between test edge d.location d.reader f.0 in inr (k.0, e ∙ f.1 ∙ sym k.1)
 
-all_draw : (test : LitmusTest) (readings : List Reading) (edge : Node → Node → Bool) → Each (Draws test edge) readings
+pub all_draw : (test : LitmusTest) (readings : List Reading) (edge : Node → Node → Bool) → Each (Draws test edge) readings
     → (a : Spot) (v : ℕ) → wanted_by test readings a v ≡ true → orders.Draws test 1 (between edge) a v
 all_draw test readings edge draws a v h =
     let f = any_found (wants_at test a v) readings h in
@@ -162,6 +163,14 @@ wants_back test readings run e r am h q c d t p v value =
     (and_from (same_node q.reader (at_node a)) (wanted test q == wanted test q)
     (subst P is (same_node_self q.reader)) (eq-eqb (wanted test q) (wanted test q) refl)))
 
+-- and of all events of a run
+pub wants_all : (test : LitmusTest) (readings : List Reading) (run : List Event) → IsRunOf test 1 run
+    → All (orders.IsWanted test (wanted_by test readings)) run → Each (IsWanted test readings) run
+wants_all test readings run r all =
+    let each = recursion_from_All (orders.IsWanted test (wanted_by test readings)) run all in
+    each_from_among (IsWanted test readings) run (λ e am. wants_back test readings run e r am
+    (each_among (orders.IsWanted test (wanted_by test readings)) e run am each))
+
 -- Cycles.
 
 path_between : (edge : Node → Node → Bool) (a : Spot) (xs : List Spot) (b : Spot) → is_path (between edge) a xs b ≡ true
@@ -172,7 +181,7 @@ path_between edge a (x ∷ xs) b h =
     and_from (edge (at_node a) (at_node x)) (is_path edge (at_node x) (map at_node xs) (at_node b)) p.0
     (path_between edge x xs b p.1)
 
-cycle_between : (edge : Node → Node → Bool) (xs : List Spot) → is_cycle_of (between edge) xs ≡ true
+pub cycle_between : (edge : Node → Node → Bool) (xs : List Spot) → is_cycle_of (between edge) xs ≡ true
     → is_cycle_of edge (map at_node xs) ≡ true
 cycle_between edge [] h = cc
 cycle_between edge (a ∷ []) h = cc
@@ -188,11 +197,4 @@ made test readings edge kept draws =
         ⊎ ((run : List Event) × IsRunOf test 1 run × All (orders.IsWanted test (wanted_by test readings)) run)
         → Closed edge ⊎ Made test readings
     put (inl l) = inl (map at_node l.0, cycle_between edge l.0 l.1)
-    put (inr m) =
-        let each = recursion_from_All (orders.IsWanted test (wanted_by test readings)) m.0 m.2 in
-        inr (
-          m.0,
-          m.1,
-          each_from_among (IsWanted test readings) m.0 (λ e am. wants_back test readings m.0 e m.1 am
-              (each_among (orders.IsWanted test (wanted_by test readings)) e m.0 am each)),
-        )
+    put (inr m) = inr (m.0, m.1, wants_all test readings m.0 m.1 m.2)

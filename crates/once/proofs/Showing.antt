@@ -17,8 +17,8 @@ use Rattle.decision.specs.Hidden.{is_hidden_store, is_own_between}
 use Rattle.decision.proofs.Blockers.{any_false, node_from, reading_access, storing_access}
 use Rattle.decision.proofs.Waits.{keeps_reading}
 use Rattle.once.specs.Edges.{Choice, Pair, Reading, asks_by, choices_among, choices_by, choices_of, edge_among, writes_to}
-use Rattle.once.specs.Sources.{AreReadings, HidesNone, IsReading, is_hidden_by, is_hidden_source, is_own_earlier, is_source_to, reads_of}
-use Rattle.once.proofs.Draws.{Draws, FromStart, FromStore, Near, StoresAt, rank_wanted}
+use Rattle.once.specs.Sources.{AreReadings, HidesNone, is_hidden_by, is_hidden_source, is_own_earlier, is_source_to, IsReading, rank_wanted, reads_of}
+use Rattle.once.proofs.Draws.{Draws, FromStart, FromStore, Near, StoresAt}
 use Rattle.once.proofs.Drawing.{IsTaken, edge_asked, from_store, kept_nodes, order_among, stores_node, third_by, writes_from, writes_tells}
 use Rattle.once.proofs.Making.{Closed, Made, made}
 
@@ -173,14 +173,21 @@ among_choices test r [] cs c a = among_append_left c (choices_of test r) (choice
 among_choices test r (k ∷ fs) cs c a =
     among_append_right c (choices_of test k) (choices_among test (fs ++ r ∷ cs)) (among_choices test r fs cs c a)
 
+-- what the edges with these sides say of the readings
+pub draws_among : (test : LitmusTest) (readings : List Reading) (taken : List Pair) → AreReadings test readings
+    → HidesNone test readings → ((choice : Choice) → Among choice (choices_among test readings) → IsTaken taken choice)
+    → Each (Draws test (edge_among test readings taken)) readings
+draws_among test readings taken are hides sides =
+    each_from_among (Draws test (edge_among test readings taken)) readings (λ r am.
+    draws_of test readings taken r am (each_among (IsReading test) r readings am are)
+    (each_among (λ k. is_hidden_source test k ≡ false) r readings am (none_any (is_hidden_source test) readings hides))
+    (λ choice a. sides choice
+    (let P : List Reading → Type 0 = λ ks. Among choice (choices_among test ks) in
+    subst P (sym am.whole) (among_choices test r am.front am.rest choice a))))
+
 pub run_or_cycle : (test : LitmusTest) (readings : List Reading) (taken : List Pair) → AreReadings test readings
     → HidesNone test readings → ((choice : Choice) → Among choice (choices_among test readings) → IsTaken taken choice)
     → Closed (edge_among test readings taken) ⊎ Made test readings
 run_or_cycle test readings taken are hides sides =
     made test readings (edge_among test readings taken) (order_among test readings taken)
-    (each_from_among (Draws test (edge_among test readings taken)) readings (λ r am.
-    draws_of test readings taken r am (each_among (IsReading test) r readings am are)
-    (each_among (λ k. is_hidden_source test k ≡ false) r readings am (none_any (is_hidden_source test) readings hides))
-    (λ choice a. sides choice
-    (let P : List Reading → Type 0 = λ ks. Among choice (choices_among test ks) in
-    subst P (sym am.whole) (among_choices test r am.front am.rest choice a)))))
+    (draws_among test readings taken are hides sides)

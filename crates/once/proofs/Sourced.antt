@@ -27,9 +27,9 @@ use Rattle.decision.proofs.HiddenReads.{own_read}
 use Rattle.decision.proofs.OwnReads.{Hider, OwnRead, never_read, own_order}
 use Rattle.once.specs.Edges.{Reading}
 use Rattle.once.specs.Laws.{HiddenSourcesAreNotRead, NoCycleHasSources, SourcesAreDecided, SourcesTreeOrRun, TreesDecideSources, TreesForbidSources}
-use Rattle.once.specs.Sources.{AreReadings, HasSource, HasSources, IsReading, is_hidden_by, is_hidden_source, is_own_earlier, is_source_to}
+use Rattle.once.specs.Sources.{AreReadings, HasSource, HasSources, is_hidden_by, is_hidden_source, is_own_earlier, is_source_to, IsReading, IsWanted, rank_wanted}
 use Rattle.once.specs.Trees.{RefutesAmong, Tree}
-use Rattle.once.proofs.Draws.{IsWanted, StoresAt, rank_wanted}
+use Rattle.once.proofs.Draws.{StoresAt}
 use Rattle.once.proofs.Deciding.{Decided, no_cycle_made, tree_or_made}
 use Rattle.once.proofs.Drawing.{writes_tells}
 use Rattle.once.proofs.Forbidding.{HasSourceAt, none_refutes, sourced_leads}
@@ -88,7 +88,7 @@ source_is test x v (Some s) (Some o) h src e =
     let same : q ≡ site s = rank_injective test x q (site s) b a (sym rank ∙ e) in
     (λ i. Some (record { thread = (same i).thread; place = (same i).place; iteration = z i }))
 
-made_has : (test : LitmusTest) (readings : List Reading) (r : Reading) (m : Made test readings) → Among r readings
+pub made_has : (test : LitmusTest) (readings : List Reading) (r : Reading) (m : Made test readings) → Among r readings
     → IsReading test r → HasSource test m.0 r
 made_has test readings r m am is =
     let run = m.0 in

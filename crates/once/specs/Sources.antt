@@ -1,14 +1,15 @@
 -- Runs of one iteration whose reads have given sources: a read takes the newest own store that waits in the store
 -- buffer, and else what was last written to memory (x86-TSO: Sewell, Sarkar, Owens, Zappa Nardelli and Myreen, CACM
 -- 2010). Which sources a thread hides from its own reads is this project's own way to say it.
-use Rattle.std.specs.Prelude.{◌≡◌, ℕ, ◌==◌, ◌&&◌, Bool, true, false, nat_lt, Option, None, Some, List, option_map}
+use Rattle.std.specs.Prelude.{◌≡◌, ℕ, ◌==◌, ◌&&◌, Bool, true, false, nat_lt, Contains, Option, None, Some, List, option_map}
 use Rattle.std.specs.List.{AllByRecursion as Each, list_any}
 use Rattle.std.specs.Option.{option_map_or}
 use Rattle.x86_subset.specs.Instr.{is_reading}
 use Rattle.x86_subset.specs.Test.{LitmusTest}
-use Rattle.tso_machine.specs.Event.{Event}
+use Rattle.tso_machine.specs.Event.{Event, is_drain}
+use Rattle.tso_machine.specs.Log.{value_read}
 use Rattle.tso_machine.specs.Run.{IsRunOf}
-use Rattle.seq_conv.specs.Sequence.{Site, action_at, in_iteration, site_location, stores_of}
+use Rattle.seq_conv.specs.Sequence.{Site, action_at, in_iteration, rank_of, site_location, stores_of}
 use Rattle.outcome_conv.specs.Holds.{source_at}
 use Rattle.verdict.specs.declared.node.Node.{Node}
 use Rattle.verdict.specs.Edges.{site}
@@ -58,3 +59,21 @@ HasSource test run r =
 -- a run of one iteration in which each read takes its value from its source
 abbrev pub HasSources : LitmusTest → List Reading → List Event → Type 0
 HasSources test readings run = IsRunOf test 1 run × Each (HasSource test run) readings
+
+-- the value that is read, in one iteration: the rank of the source, or 0
+abbrev pub rank_wanted : LitmusTest → ℕ → Option Node → ℕ
+rank_wanted test x None = 0
+rank_wanted test x (Some s) = rank_of test x (site s)
+
+abbrev pub wanted : LitmusTest → Reading → ℕ
+wanted test r = rank_wanted test r.location r.source
+
+-- an event of a reader reads this value
+abbrev pub IsWanted : LitmusTest → List Reading → Event → Type 0
+IsWanted test readings e =
+    (r : Reading) → Contains readings r → is_drain e ≡ false → e.thread ≡ r.reader.thread
+    → e.place ≡ r.reader.place → (v : ℕ) → value_read e ≡ Some v → v ≡ wanted test r
+
+-- each event of a reader does
+abbrev pub HasValues : LitmusTest → List Reading → List Event → Type 0
+HasValues test readings run = Each (IsWanted test readings) run

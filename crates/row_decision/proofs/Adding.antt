@@ -1,7 +1,7 @@
 -- What the loops of `graph` and `decide` keep.
-use Rattle.std.proofs.Common.{◌≡◌, ℕ, zero, suc, ◌+◌, ◌<◌, ◌≤◌, ◌==◌, ◌||◌, Bool, true, false, cond, List, [], ◌∷◌, ◌++◌, All, Option, None, Some, filter, map, length, take, get_or, slice_get, refl, sym, ap, ◌∙◌, arith, subst, inl, inr, ◌⊎◌, append_assoc, append-nil, eq-eqb}
-use Rattle.std.proofs.lemmas.Bool.{and_from, both_ways, cases_Bool, cases_eq, cases_lt, or_left, or_right}
-use Rattle.std.proofs.lemmas.List.{map-append, take_all}
+use Rattle.std.proofs.Common.{◌≡◌, ℕ, zero, suc, ◌+◌, ◌<◌, ◌||◌, Bool, true, false, cond, List, [], ◌∷◌, ◌++◌, All, Some, filter, map, length, take, get_or, slice_get, refl, sym, ap, ◌∙◌, arith, subst, inl, inr, ◌⊎◌, append_assoc, append-nil}
+use Rattle.std.proofs.lemmas.Bool.{both_ways, cases_eq, or_left, or_right}
+use Rattle.std.proofs.lemmas.List.{map-append}
 use Rattle.std.specs.List.{AllByRecursion as Each, list_any}
 use Rattle.x86_subset.specs.Shape.{IsTest}
 use Rattle.x86_subset.specs.Test.{LitmusTest}
@@ -9,19 +9,19 @@ use Rattle.seq_conv.specs.Sequence.{Site, stores_of}
 use Rattle.perp_base.proofs.Lists.{any_map, each_among, each_append}
 use Rattle.seq_conv.proofs.Stores.{IsStoreOf, stores_are}
 use Rattle.verdict.specs.declared.node.Node.{Node}
-use Rattle.verdict.specs.Edges.{is_node, node, site}
-use Rattle.verdict.proofs.Finds.{any_among, any_found}
-use Rattle.choice_search.proofs.Finds.{any_append, any_push, or_false}
+use Rattle.verdict.specs.Edges.{node}
+use Rattle.verdict.proofs.Finds.{any_found}
+use Rattle.choice_search.proofs.Finds.{any_push}
 use Rattle.choice_search.specs.declared.graph.Pair.{Pair as PairOf}
 use Rattle.choice_search.specs.declared.graph.Choice.{Choice as ChoiceOf}
 use Rattle.choice_search.specs.Graph.{has_pair, is_pair as is_pair_of}
 use Rattle.choice_search.proofs.Trees.{pair_back, pair_self}
 use Rattle.std.proofs.lemmas.List.Elements.{All-from_recursion, recursion_from_All}
-use Rattle.once.specs.Edges.{Choice, Reading, asks_of, choice_of, choices_among, choices_by, choices_of, edge_among, is_third}
-use Rattle.once.specs.Sources.{AreReadings, IsReading, is_hidden_source}
+use Rattle.once.specs.Edges.{Choice, Reading, asks_of, choice_of, choices_among, choices_of, edge_among, is_third}
+use Rattle.once.specs.Sources.{AreReadings, IsReading}
 use Rattle.once.proofs.Drawing.{edge_is}
 use Rattle.outcome_rows.proofs.Loops.{take_more}
-use Rattle.row_decision.specs.Seen.{AreChoices, AreEdges, choice_seen, node_at, pair_seen, seen}
+use Rattle.row_decision.specs.Seen.{AreEdges, choice_seen, node_at, seen}
 use Rattle.row_decision.proofs.Numbers.{IsSmall, node_below, small_at}
 use Rattle.row_decision.specs.declared.reading.Reading.{Reading as ReadingOf}
 

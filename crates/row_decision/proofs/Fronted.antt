@@ -1,12 +1,10 @@
 -- What the walk over the sources of registers decides.
 use Rattle.std.proofs.Common.{◌≡◌, ℕ, zero, suc, ◌+◌, ◌-◌, ◌<◌, ◌≤◌, ◌==◌, Bool, true, false, cond, Option, None, Some, List, [], ◌∷◌, ◌++◌, drop, filter, get_or, length, map, take, refl, sym, ap, ◌∙◌, arith, subst, inl, inr, ◌⊎◌, append_assoc, append-nil, eq-eqb}
-use Rattle.std.proofs.lemmas.Bool.{and_from, and_parts, both_ways, cases_eq, eqb-true}
+use Rattle.std.proofs.lemmas.Bool.{both_ways, eqb-true}
 use Rattle.std.proofs.lemmas.List.{map-append, take_all}
-use Rattle.std.specs.List.{AllByRecursion as Each, AllZip}
-use Rattle.std.specs.Option.{is_some}
+use Rattle.std.specs.List.{AllByRecursion as Each}
 use Rattle.x86_subset.specs.Shape.{IsTest}
 use Rattle.x86_subset.specs.Test.{LitmusTest, last_writer_of}
-use Rattle.tso_machine.specs.Event.{Event}
 use Rattle.seq_conv.specs.Sequence.{Site, site_location, stores_of}
 use Rattle.x86_subset.specs.declared.instr.Reg.TheVariants.{Eax}
 use Rattle.row_decision.specs.Seen.{seen}
@@ -16,12 +14,12 @@ use Rattle.perp_base.proofs.Lists.{each_among, each_append}
 use Rattle.verdict.specs.declared.node.Node.{Node}
 use Rattle.verdict.specs.Edges.{node, site}
 use Rattle.once.specs.Edges.{Reading}
-use Rattle.once.specs.Sources.{AreReadings, HasSources, IsReading, is_source_to}
+use Rattle.once.specs.Sources.{AreReadings, IsReading, is_source_to}
 use Rattle.once.proofs.Drawing.{writes_from, writes_tells}
-use Rattle.outcome_rows.specs.Rows.{HoldReads, HoldsRead, IsReadingOf, IsRow, ReadValues, Register, location_of_read, read_of, reading_from, text_value, values_read}
+use Rattle.outcome_rows.specs.Rows.{HoldReads, HoldsRead, IsRow, ReadValues, Register, location_of_read, read_of, reading_from, text_value, values_read}
 use Rattle.outcome_rows.proofs.Loops.{take_more}
-use Rattle.outcome_rows.proofs.Members.{In, among_in, in_from, in_left, in_map, in_right, map_in, filter_in, in_filter, in_either, in_among}
-use Rattle.outcome_rows.proofs.Valued.{HeldRead, held_read, reading_is, rows_are_sources_lem}
+use Rattle.outcome_rows.proofs.Members.{In, among_in, in_left, in_map, in_right, map_in, filter_in, in_filter, in_either, in_among}
+use Rattle.outcome_rows.proofs.Valued.{held_read, reading_is, rows_are_sources_lem}
 use Rattle.profile_check.proofs.KindLemmas.{reads_at}
 use Rattle.row_decision.specs.Decided.{HasRun}
 use Rattle.row_decision.specs.Fronts.{IsFrontFrom, IsFrontOf, initial_source, register_seen, sources_with, store_source, writes_value}

@@ -1,5 +1,5 @@
 -- What the search finds of the graph of readings holds of the test.
-use Rattle.std.proofs.Common.{◌≡◌, eq-eqb, ℕ, ◌==◌, ◌&&◌, ◌||◌, Bool, true, false, Contains, List, [], ◌∷◌, map, Option, None, Some, slice_get, refl, sym, ap, ◌∙◌, subst, inl, inr, ◌⊎◌}
+use Rattle.std.proofs.Common.{◌≡◌, eq-eqb, ℕ, ◌==◌, ◌||◌, Bool, true, false, Contains, List, [], ◌∷◌, map, Some, slice_get, sym, ap, ◌∙◌, subst, inl, inr, ◌⊎◌}
 use Rattle.std.proofs.lemmas.Bool.{and_from, and_parts, both_ways, cases_Bool, eqb-true, or_cases, or_left, or_right}
 use Rattle.std.specs.List.{AllByRecursion as Each, AllZip, list_any}
 use Rattle.x86_subset.specs.Shape.{IsTest}
@@ -17,8 +17,8 @@ use Rattle.choice_search.specs.Graph.{HasNoCycle, has_pair, is_cycle_of, is_path
 use Rattle.choice_search.specs.Graph.{IsSideOf as IsSide, edge_among as edge_in, is_pair as is_pair_of, before_source as before_of, after_reader as after_of}
 use Rattle.choice_search.specs.Trees.{Refutes}
 use Rattle.choice_search.proofs.Finds.{any_get}
-use Rattle.once.specs.Edges.{Choice, IsSideOf, Pair, Reading, after_reader, asks_of, before_source, choices_among, edge_among, is_pair}
-use Rattle.once.specs.Sources.{AreReadings, HasSources, HidesNone, is_hidden_source}
+use Rattle.once.specs.Edges.{Choice, IsSideOf, Pair, Reading, asks_of, edge_among, is_pair}
+use Rattle.once.specs.Sources.{AreReadings, HidesNone, is_hidden_source}
 use Rattle.once.specs.Trees.{RefutesAmong}
 use Rattle.once.proofs.Drawing.{EdgeIs, edge_from, edge_is}
 use Rattle.once.proofs.Sourced.{hidden_sources_are_not_read_lem, no_cycle_has_sources_lem, trees_forbid_sources_lem}
@@ -72,7 +72,7 @@ edge_more test readings taken a b h =
     go (inr (inl e)) = or_right (is_kept test (site a) (site b)) (list_any (asks_of test a b) readings) e
     go (inr (inr e)) = cc
 
-edge_down : (test : LitmusTest) (readings : List Reading) (edges taken : List PairOf) → AreEdges test readings edges
+pub edge_down : (test : LitmusTest) (readings : List Reading) (edges taken : List PairOf) → AreEdges test readings edges
     → Each (HasNodes test) taken → (a b : ℕ) → edge_in edges taken a b ≡ true
     → edge_among test readings (map pair_seen taken) (node_at a) (node_at b) ≡ true
 edge_down test readings edges taken are has a b h = go (or_cases (has_pair edges a b) (has_pair taken a b) h)
@@ -115,7 +115,7 @@ path_up g e m a (b ∷ rest) last h =
     and_from (e (number_of a) (number_of b)) (is_path e (number_of b) (map number_of rest) (number_of last)) (m a b k.0)
     (path_up g e m b rest last k.1)
 
-cycle_up : (g : Node → Node → Bool) (e : ℕ → ℕ → Bool)
+pub cycle_up : (g : Node → Node → Bool) (e : ℕ → ℕ → Bool)
     → ((a b : Node) → g a b ≡ true → e (number_of a) (number_of b) ≡ true) → (nodes : List Node)
     → is_cycle g nodes ≡ true → is_cycle_of e (map number_of nodes) ≡ true
 cycle_up g e m [] h = cc
@@ -145,7 +145,7 @@ tree_down test readings edges choices taken (Split' c p l q r) es cs ns has h =
       tree_down test readings edges choices (after_of c ∷ taken) r es cs ns ((n.reader, n.other), has) h.2,
     )
 
-choice_nodes : (test : LitmusTest) (readings : List Reading) (choices : List ChoiceOf) → AreReadings test readings
+pub choice_nodes : (test : LitmusTest) (readings : List Reading) (choices : List ChoiceOf) → AreReadings test readings
     → AreChoices test readings choices → Each (AreNodes test) (map choice_seen choices)
 choice_nodes test readings choices are cs =
     let P : List Choice → Type 0 = λ l. Each (AreNodes test) l in subst P (sym cs) (nodes_among test readings are)
@@ -160,7 +160,7 @@ tree_none test readings edges choices tree are es cs h =
 
 -- ---- sides
 
-sides_up : (choices : List ChoiceOf) (sides : List PairOf) → AllZip IsSide choices sides
+pub sides_up : (choices : List ChoiceOf) (sides : List PairOf) → AllZip IsSide choices sides
     → AllZip IsSideOf (map choice_seen choices) (map pair_seen sides)
 sides_up [] [] z = tt
 sides_up [] (p ∷ ps) z = absurd z
@@ -187,7 +187,7 @@ pairs_up a b sides h =
     let f = any_found (λ p. is_pair a b (pair_seen p)) sides (sym (any_map (is_pair a b) pair_seen sides) ∙ h) in
     any_among (is_pair_of (number_of a) (number_of b)) f.here sides f.among (pair_up a b f.here f.passes)
 
-edge_up : (test : LitmusTest) (readings : List Reading) (edges sides : List PairOf) → IsTest test
+pub edge_up : (test : LitmusTest) (readings : List Reading) (edges sides : List PairOf) → IsTest test
     → AreEdges test readings edges → (a b : Node) → edge_among test readings (map pair_seen sides) a b ≡ true
     → edge_in edges sides (number_of a) (number_of b) ≡ true
 edge_up test readings edges sides is es a b h = go k.why

@@ -2,3 +2,5 @@ pub mod Numbers
 pub mod Graphs
 pub mod Adding
 pub mod Fronted
+pub mod Runs
+pub mod Conjoined

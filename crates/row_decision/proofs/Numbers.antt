@@ -1,5 +1,5 @@
 -- The nodes of a test have numbers.
-use Rattle.std.proofs.Common.{◌≡◌, ℕ, ◌<◌, ◌≤◌, ◌+◌, ◌*◌, ◌/◌, ◌%◌, Some, List, [], ◌∷◌, ◌++◌, length, map, filter, cond, Bool, true, false, refl, sym, ap, ◌∙◌, arith, subst, slice_get, Option, None, IfSome, unwrap_or, option_and_then}
+use Rattle.std.proofs.Common.{◌≡◌, ℕ, ◌<◌, ◌+◌, ◌*◌, ◌/◌, ◌%◌, Some, List, [], ◌∷◌, length, map, filter, true, sym, arith, subst, Option, None, IfSome, unwrap_or, option_and_then}
 use Rattle.std.specs.List.{AllByRecursion as Each}
 use Rattle.outcome_conv.proofs.Agree.{thread_below}
 use Rattle.std.proofs.lemmas.Option.{slice_get_within}
@@ -21,9 +21,8 @@ use Rattle.decision.proofs.Blockers.{node_from, reading_access, storing_access}
 use Rattle.run_witness.proofs.Reading.{store_stores}
 use Rattle.once.specs.Edges.{Choice, Reading, choice_of, choices_among, choices_by, choices_of, is_third}
 use Rattle.once.specs.Sources.{AreReadings, IsReading, is_source_to, reads_of}
-use Rattle.once.proofs.Draws.{StoresAt}
 use Rattle.once.proofs.Drawing.{stores_node, writes_tells}
-use Rattle.once.proofs.Showing.{ReadsOf, reads_tells}
+use Rattle.once.proofs.Showing.{reads_tells}
 use Rattle.row_decision.specs.Seen.{node_at, number_of}
 
 -- a node that has a number of its own

@@ -1,3 +1,5 @@
 pub mod Seen
 pub mod Decided
+pub mod Shown
+pub mod Conjunctions
 pub mod Fronts

@@ -101,7 +101,7 @@ fn is_hidden(test: &Test, sequences: &Sequences, reading: Reading) -> bool
 }
 
 /// The first reading whose source is hidden.
-fn hidden(test: &Test, sequences: &Sequences, readings: &[Reading]) -> Option<usize>
+pub fn hidden(test: &Test, sequences: &Sequences, readings: &[Reading]) -> Option<usize>
     requires same { AreOf test.now sequences.now }
     requires readings { AreReadings test.now (map seen readings.now) }
     ensures { MatchOption result (HidesNone test.now (map seen readings.now))

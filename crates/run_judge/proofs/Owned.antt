@@ -110,8 +110,13 @@ other_buffer_by writes test s e t _ h = refl
 
 -- a buffered write is that of its thread at its place and iteration
 abbrev pub IsOwn : Writes → LitmusTest → ℕ → Write → Type 0
-IsOwn writes test t w = w ≡ write_by writes test (record { thread = t; iteration = w.iteration; place = w.place; kind
-    = Push })
+IsOwn writes test t w = w ≡ write_by writes test (record {
+  thread = t;
+  iteration = w.iteration;
+  place = w.place;
+  kind
+      = Push;
+})
 
 each_drop : (P : Write → Type 0) (ws : List Write) → Each P ws → Each P (drop 1 ws)
 each_drop P [] h = tt
@@ -128,7 +133,7 @@ own_push writes test s e t true h k =
     → Each (IsOwn writes test u) (s.buffer e.thread ++ write_by writes test e ∷ []) in
     let own : IsOwn writes test e.thread (write_by writes test e) = refl in
     subst P same (λ l. each_append (IsOwn writes test e.thread) (s.buffer e.thread) (write_by writes test e ∷ []) l
-        (own, tt)) k
+    (own, tt)) k
 
 own_drain : (writes : Writes) (test : LitmusTest) (s : State) (e : Event) (t : ℕ) (b : Bool) → (e.thread == t) ≡ b
     → Each (IsOwn writes test t) (s.buffer t) → Each (IsOwn writes test t) (cond b (drop 1 (s.buffer e.thread))
@@ -179,7 +184,7 @@ named_push writes test n s e t true h m k =
     let P : ℕ → Type 0 = λ u. Each (IsNamed test n u) (s.buffer u)
     → Each (IsNamed test n u) (s.buffer e.thread ++ write_by writes test e ∷ []) in
     subst P same (λ l. each_append (IsNamed test n e.thread) (s.buffer e.thread) (write_by writes test e ∷ []) l
-        (m, tt)) k
+    (m, tt)) k
 
 named_drain : (test : LitmusTest) (n : ℕ) (s : State) (e : Event) (t : ℕ) (b : Bool) → (e.thread == t) ≡ b
     → Each (IsNamed test n t) (s.buffer t)
@@ -220,7 +225,11 @@ oldest_tells writes test e (w ∷ ws) own h =
     let p = and_parts (w.iteration == e.iteration) (w.place == e.place) h in
     let i = eqb-true w.iteration e.iteration p.0 in
     let l = eqb-true w.place e.place p.1 in
-    let same : write_by writes test (record { thread = e.thread; iteration = w.iteration; place = w.place; kind = Push
-        })
+    let same : write_by writes test (record {
+      thread = e.thread;
+      iteration = w.iteration;
+      place = w.place;
+      kind = Push;
+    })
     ≡ write_by writes test e = rw (i, l) refl in
     ap (λ z. Some z) (own.0 ∙ same)

@@ -1,7 +1,6 @@
 -- What is kept of a run that has been begun along edges, and that an event more keeps it.
-use Rattle.std.proofs.Common.{◌≡◌, ℕ, ◌≤◌, ◌==◌, ◌&&◌, Bool, true, false, cond, Some, List, [], ◌∷◌, ◌++◌, refl, sym, ap, ◌∙◌, subst, inl, inr, ◌⊎◌, eq-eqb, unwrap_or, option_and_then}
+use Rattle.std.proofs.Common.{◌≡◌, ℕ, ◌==◌, ◌&&◌, Bool, true, false, cond, Some, List, [], ◌∷◌, ◌++◌, refl, sym, ap, ◌∙◌, subst, inl, inr, ◌⊎◌, eq-eqb, unwrap_or, option_and_then}
 use Rattle.std.proofs.lemmas.Bool.{and_from, and_parts, both_ways, cases_eq, eqb-true}
-use Rattle.std.specs.List.{AllByRecursion as Each}
 use Rattle.x86_subset.specs.Instr.{is_store_to, location_of}
 use Rattle.x86_subset.specs.Test.{LitmusTest, body_of}
 use Rattle.x86_subset.specs.declared.instr.Instr.{Instr}
@@ -20,32 +19,12 @@ use Rattle.run_witness.proofs.Slots.{slot_at}
 use Rattle.run_witness.proofs.Stands.{stores_at}
 use Rattle.verdict.specs.Edges.{is_access}
 use Rattle.run_orders.specs.Orders.{FromStart, FromStore, IsWanted, Spot, StoresAt, slot_in, value_at}
-use Rattle.run_orders.proofs.Gone.{Gone, Next, deed, mark_then}
+use Rattle.run_orders.specs.Course.{Begun, IsOpen, mark_then}
+use Rattle.run_orders.proofs.Gone.{Next, deed}
 
 pub storing_access : (a : Instr) → is_storing a ≡ true → is_access a ≡ true
 storing_access Fence h = cc
 storing_access _ h = refl
-
--- a store, a load or an exchange whose moment is still to come
-pub record IsOpen (test : LitmusTest) (n : ℕ) (marks : ℕ → Mark) (a : Spot) : Type 0 where
-  pub slot : Slot
-  pub stands : slot_in test n a ≡ Some slot
-  pub access : is_access slot.action ≡ true
-  pub late : cond (is_storing slot.action) (marks a.thread).drained (marks a.thread).done ≤ a.index
-
-pub record Begun (test : LitmusTest) (n : ℕ) (edge : Spot → Spot → Bool) (wanted : Spot → ℕ → Bool)
-    (marks : ℕ → Mark) (events : List Event) : Type 0 where
-  pub gone : Gone test n marks events
-  -- what an edge leads to comes after what it leads from
-  pub closed : (a b : Spot) → edge a b ≡ true → IsOpen test n marks a → (s : Slot) → slot_in test n b ≡ Some s
-      → is_access s.action ≡ true → IsOpen test n marks b
-  -- until it is read memory has what is read
-  pub start : (x : ℕ) (r : Spot) → FromStart test n edge x r → IsOpen test n marks r
-      → (after_all test initial events).memory x ≡ 0
-  pub stored : (x : ℕ) (r : Spot) (f : FromStore test n edge x r) → IsOpen test n marks r
-      → (IsOpen test n marks f.source → ⊥)
-      → (after_all test initial events).memory x ≡ value_at test n x f.source f.stores
-  pub reads : Each (IsWanted test wanted) events
 
 abbrev pub spot : ℕ → ℕ → Spot
 spot t i = record { thread = t; index = i }

@@ -15,9 +15,10 @@ use Rattle.run_witness.specs.Stage.{slot_write}
 use Rattle.run_witness.proofs.Reading.{store_stores}
 use Rattle.run_witness.proofs.Slots.{oldest, slot_at}
 use Rattle.verdict.specs.Edges.{is_access}
-use Rattle.run_orders.specs.Orders.{Afar, Draws, FromStart, FromStore, Near, Spot, slot_in, spot_of, value_at}
-use Rattle.run_orders.proofs.Begun.{Begun, Came, Comes, IsFree, IsOpen, location_at, one_slot, spot, storing_access}
-use Rattle.run_orders.proofs.Gone.{IsOldest, Next, deed, next_drain, next_exchange, next_fence, next_push, next_read, queue}
+use Rattle.run_orders.specs.Orders.{Afar, AllDraw, Draws, FromStart, FromStore, Near, Spot, slot_in, spot_of, value_at}
+use Rattle.run_orders.specs.Course.{Begun, IsOldest, IsOpen, StoresNone}
+use Rattle.run_orders.proofs.Begun.{Came, Comes, IsFree, location_at, one_slot, spot, storing_access}
+use Rattle.run_orders.proofs.Gone.{Next, deed, next_drain, next_exchange, next_fence, next_push, next_read, queue}
 use Rattle.run_orders.proofs.Opens.{NoStoreIn, newest_of_none, newest_of_some, open_back, open_by, open_not, open_stays}
 
 pub late_load : (b : Bool) (m : Mark) (p : ℕ) → b ≡ false → cond b m.drained m.done ≤ p → m.done ≤ p
@@ -175,9 +176,6 @@ read_value test n edge wanted marks events b t v d unread free = go d.source
     go (inl f) = start f.0 ∙ sym f.1
     go (inr f) = by f.0 f.0.place ∙ sym f.1
 
-abbrev pub AllDraw : LitmusTest → ℕ → (Spot → Spot → Bool) → (Spot → ℕ → Bool) → Type 0
-AllDraw test n edge wanted = (r : Spot) (v : ℕ) → wanted r v ≡ true → Draws test n edge r v
-
 -- the event of a reading action reads what is wanted
 wants_value : (test : LitmusTest) (n : ℕ) (edge : Spot → Spot → Bool) (wanted : Spot → ℕ → Bool) (marks : ℕ → Mark)
     (events : List Event) → AllDraw test n edge wanted → Begun test n edge wanted marks events → (t v : ℕ) (s : Slot)
@@ -203,14 +201,11 @@ no_value v h = cc
 some_is : (a b : ℕ) → Some a ≡ Some b → a ≡ b
 some_is a b h = cc
 
+-- an event can be next, and what is kept stays so
 pub record Goes (test : LitmusTest) (n : ℕ) (edge : Spot → Spot → Bool) (wanted : Spot → ℕ → Bool) (marks : ℕ → Mark)
-    (events : List Event) : Type 0 where
-  pub thread : ℕ
-  pub index : ℕ
-  pub slot : Slot
-  pub kind : Kind
-  pub next : Next test n marks events thread index slot kind
-  pub comes : Comes test n edge wanted marks thread index slot kind
+    (events : List Event) (t i : ℕ) (s : Slot) (k : Kind) : Type 0 where
+  pub next : Next test n marks events t i s k
+  pub comes : Comes test n edge wanted marks t i s k
 
 abbrev LateOf : (marks : ℕ → Mark) → ℕ → Slot → Mark → ℕ → Type 0
 LateOf marks t s m p = cond (is_storing s.action) m.drained m.done ≤ p
@@ -263,14 +258,10 @@ stays_done test n marks t s C at f a o e = go (cases_Bool (is_storing o.slot.act
 pub goes_push : (test : LitmusTest) (n : ℕ) (edge : Spot → Spot → Bool) (wanted : Spot → ℕ → Bool) (marks : ℕ → Mark)
     (events : List Event) → Begun test n edge wanted marks events → (t : ℕ) (s : Slot) → t < length test.bodies
     → slice_get (loop_of test n t) (marks t).done ≡ Some s → is_store s.action ≡ true → Gives s.action Push
-    → is_storing s.action ≡ true → Goes test n edge wanted marks events
+    → is_storing s.action ≡ true → Goes test n edge wanted marks events t (marks t).done s Push
 goes_push test n edge wanted marks events b t s below at store gives storing =
     let r : Mark = record { done = (marks t).done + 1; drained = (marks t).drained } in
     record {
-      thread = t;
-      index = (marks t).done;
-      slot = s;
-      kind = Push;
       next = next_push test n marks events t s b.gone below at store gives storing;
       comes = record {
         back = λ a o. open_back test n marks t r a (omega arith) (omega arith) o;
@@ -285,14 +276,10 @@ goes_push test n edge wanted marks events b t s below at store gives storing =
 pub goes_fence : (test : LitmusTest) (n : ℕ) (edge : Spot → Spot → Bool) (wanted : Spot → ℕ → Bool) (marks : ℕ → Mark)
     (events : List Event) → Begun test n edge wanted marks events → (t : ℕ) (s : Slot) → t < length test.bodies
     → slice_get (loop_of test n t) (marks t).done ≡ Some s → Gives s.action Fenced → is_storing s.action ≡ false
-    → is_access s.action ≡ false → queue test n marks t ≡ [] → Goes test n edge wanted marks events
+    → is_access s.action ≡ false → queue test n marks t ≡ [] → Goes test n edge wanted marks events t (marks t).done s Fenced
 goes_fence test n edge wanted marks events b t s below at gives quiet none q =
     let r : Mark = record { done = (marks t).done + 1; drained = (marks t).drained } in
     record {
-      thread = t;
-      index = (marks t).done;
-      slot = s;
-      kind = Fenced;
       next = next_fence test n marks events t s b.gone below at gives quiet q;
       comes = record {
         back = λ a o. open_back test n marks t r a (omega arith) (omega arith) o;
@@ -312,16 +299,12 @@ pub goes_read : (test : LitmusTest) (n : ℕ) (edge : Spot → Spot → Bool) (w
     (events : List Event) → AllDraw test n edge wanted → Begun test n edge wanted marks events → (t : ℕ) (s : Slot)
     → t < length test.bodies → slice_get (loop_of test n t) (marks t).done ≡ Some s
     → ((v : ℕ) → Gives s.action (Read v)) → is_storing s.action ≡ false → is_access s.action ≡ true
-    → IsFree test n edge marks (spot t (marks t).done) → Goes test n edge wanted marks events
+    → IsFree test n edge marks (spot t (marks t).done) → Goes test n edge wanted marks events t (marks t).done s (Read (readable (after_all test initial events) t (event_location test (deed t s Drain))))
 goes_read test n edge wanted marks events draws b t s below at gives quiet access free =
     let v = readable (after_all test initial events) t (event_location test (deed t s Drain)) in
     let r : Mark = record { done = (marks t).done + 1; drained = (marks t).drained } in
     let unread = not_done test n marks t (marks t).done s (b.gone.stands.own t).order (omega arith) at access in
     record {
-      thread = t;
-      index = (marks t).done;
-      slot = s;
-      kind = Read v;
       next = next_read test n marks events t s v b.gone below at (gives v) quiet refl;
       comes = record {
         back = λ a o. open_back test n marks t r a (omega arith) (omega arith) o;
@@ -344,16 +327,12 @@ goes_read test n edge wanted marks events draws b t s below at gives quiet acces
 pub goes_drain : (test : LitmusTest) (n : ℕ) (edge : Spot → Spot → Bool) (wanted : Spot → ℕ → Bool) (marks : ℕ → Mark)
     (events : List Event) → Begun test n edge wanted marks events → (t place : ℕ) (s : Slot)
     → t < length test.bodies → IsOldest test n t (marks t).drained (marks t).done place s
-    → IsFree test n edge marks (spot t place) → Goes test n edge wanted marks events
+    → IsFree test n edge marks (spot t place) → Goes test n edge wanted marks events t place s Drain
 goes_drain test n edge wanted marks events b t place s below old free =
     let r : Mark = record { done = (marks t).done; drained = place + 1 } in
     let from = old.after in
     let under = old.below in
     record {
-      thread = t;
-      index = place;
-      slot = s;
-      kind = Drain;
       next = next_drain test n marks events t place s b.gone below old;
       comes = record {
         back = λ a o. open_back test n marks t r a (omega arith) (omega arith) o;
@@ -401,10 +380,6 @@ goes_drain test n edge wanted marks events b t place s below old free =
             inl (put_load (is_storing o.slot.action) (record { done = (marks t).done; drained = place + 1 }) a.index q
             (late_load (is_storing o.slot.action) (marks t) a.index q late))
 
-abbrev pub StoresNone : LitmusTest → ℕ → ℕ → ℕ → ℕ → Type 0
-StoresNone test n t from to =
-    (i : ℕ) (s : Slot) → from ≤ i → i < to → slice_get (loop_of test n t) i ≡ Some s → is_storing s.action ≡ false
-
 -- where no action between the marks stores, nothing waits
 pub none_queue : (test : LitmusTest) (n : ℕ) (marks : ℕ → Mark) (t : ℕ)
     → StoresNone test n t (marks t).drained (marks t).done → queue test n marks t ≡ []
@@ -422,7 +397,7 @@ pub goes_exchange : (test : LitmusTest) (n : ℕ) (edge : Spot → Spot → Bool
     → t < length test.bodies → slice_get (loop_of test n t) (marks t).done ≡ Some s
     → ((v : ℕ) → Gives s.action (Exchanged v)) → is_storing s.action ≡ true
     → StoresNone test n t (marks t).drained (marks t).done
-    → IsFree test n edge marks (spot t (marks t).done) → Goes test n edge wanted marks events
+    → IsFree test n edge marks (spot t (marks t).done) → Goes test n edge wanted marks events t (marks t).done s (Exchanged ((after_all test initial events).memory (event_location test (deed t s Drain))))
 goes_exchange test n edge wanted marks events draws b t s below at gives storing none free =
     let z = after_all test initial events in
     let v = z.memory (event_location test (deed t s Drain)) in
@@ -433,10 +408,6 @@ goes_exchange test n edge wanted marks events draws b t s below at gives storing
     let order : (marks t).drained ≤ (marks t).done = (b.gone.stands.own t).order in
     let unread = not_done test n marks t (marks t).done s order (omega arith) at (storing_access s.action storing) in
     record {
-      thread = t;
-      index = (marks t).done;
-      slot = s;
-      kind = Exchanged v;
       next = next_exchange test n marks events t s v b.gone below at (gives v) storing q (empty, refl);
       comes = record {
         back = λ a o. open_back test n marks t r a (omega arith) (omega arith) o;

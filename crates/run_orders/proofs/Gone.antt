@@ -1,14 +1,14 @@
 -- How far a run that has been begun has come, and the events that can be next.
-use Rattle.std.proofs.Common.{◌≡◌, ℕ, zero, suc, ◌+◌, ◌-◌, ◌*◌, ◌<◌, ◌≤◌, ◌==◌, true, false, not, Some, List, [], ◌∷◌, ◌++◌, length, map, filter, take, slice_get, refl, sym, ap, ◌∙◌, arith, subst, inl, inr, ◌⊎◌, append-nil, eq-eqb, ne_eqb}
+use Rattle.std.proofs.Common.{◌≡◌, ℕ, zero, suc, ◌+◌, ◌*◌, ◌<◌, ◌≤◌, ◌==◌, true, false, not, Some, List, [], ◌∷◌, ◌++◌, length, map, filter, take, slice_get, refl, sym, ap, ◌∙◌, arith, subst, inl, inr, ◌⊎◌, append-nil, eq-eqb, ne_eqb}
 use Rattle.std.proofs.lemmas.Bool.{cases_eq, cases_lt, true≢false}
 use Rattle.std.proofs.lemmas.List.{take_all, take_more}
 use Rattle.std.proofs.lemmas.List.Elements.{All-from_recursion, filter-append}
 use Rattle.std.proofs.lemmas.Option.{get_or_from_slice_get, slice_get_within}
-use Rattle.std.specs.List.{AllZip, AllByRecursion as Each}
+use Rattle.std.specs.List.{AllZip}
 use Rattle.x86_subset.specs.Test.{LitmusTest, body_of}
 use Rattle.x86_subset.specs.declared.instr.Instr.{Instr}
 use Rattle.tso_machine.specs.Event.{Event, Kind, Push, Drain, Read, Fenced, Exchanged, is_drain, is_drain_kind}
-use Rattle.tso_machine.specs.Machine.{Needs, State, Steps, after, after_all, initial, updated, write_of}
+use Rattle.tso_machine.specs.Machine.{Needs, State, after, after_all, initial, updated, write_of}
 use Rattle.tso_machine.specs.Part.{Fills, Gives, Slot, part_of}
 use Rattle.tso_machine.specs.Run.{IsRunOf}
 use Rattle.tso_machine.specs.Source.{is_memory_kind}
@@ -19,37 +19,11 @@ use Rattle.run_witness.proofs.Stands.{IsOf, all_drained, done_more, mark_at, sta
 use Rattle.run_witness.specs.Marks.{Mark, is_storing, loop_of, waiting}
 use Rattle.run_witness.specs.Order.{is_store}
 use Rattle.run_witness.specs.Stage.{Stands, slot_write}
-
--- what thread t has done
-abbrev pub deeds : ℕ → List Event → List Event
-deeds t events = filter (λ e. not (is_drain e)) (part_of t events)
-
--- what waits in a thread's buffer is stores, no exchanges
-abbrev pub WaitsStores : LitmusTest → ℕ → ℕ → Mark → Type 0
-WaitsStores test n t m =
-    (i : ℕ) (s : Slot) → m.drained ≤ i → i < m.done → slice_get (loop_of test n t) i ≡ Some s
-    → is_storing s.action ≡ true → is_store s.action ≡ true
-
--- events that lead on from the beginning, by how far the threads have come
-pub record Gone (test : LitmusTest) (n : ℕ) (marks : ℕ → Mark) (events : List Event) : Type 0 where
-  pub steps : Steps test initial events
-  pub stands : Stands test n (after_all test initial events) marks
-  pub performed : (t : ℕ) → t < length test.bodies
-      → AllZip (Fills t) (take (marks t).done (loop_of test n t)) (deeds t events)
-  pub threads : Each (λ e. e.thread < length test.bodies) events
-  pub stores : (t : ℕ) → WaitsStores test n t (marks t)
+use Rattle.run_orders.specs.Course.{Gone, IsOldest, WaitsStores, deeds, left, mark_then, total}
 
 -- what waits
 abbrev pub queue : LitmusTest → ℕ → (ℕ → Mark) → ℕ → List Slot
 queue test n marks t = waiting (loop_of test n t) (marks t).drained (marks t).done
-
--- what is left to do
-abbrev pub left : LitmusTest → ℕ → ℕ → Mark → ℕ
-left test n t m = (length (loop_of test n t) - m.done) + (length (loop_of test n t) - m.drained)
-
-abbrev pub total : LitmusTest → ℕ → (ℕ → Mark) → ℕ → ℕ
-total test n marks zero = 0
-total test n marks (suc k) = left test n k (marks k) + total test n marks k
 
 updated_same : {A : Type 0} (f : ℕ → A) (t : ℕ) (a : A) → updated f t a t ≡ a
 updated_same f t a = rw (eq-eqb t t refl) refl
@@ -174,14 +148,6 @@ gone_step test n marks events e r g below needs stands adv waits =
 abbrev pub deed : ℕ → Slot → Kind → Event
 deed t s k = record { thread = t; iteration = s.iteration; place = s.place; kind = k }
 
--- a thread's mark after an event of this kind, at this place of its loop
-abbrev pub mark_then : Kind → ℕ → Mark → Mark
-mark_then Push i m = record { done = m.done + 1; drained = m.drained }
-mark_then Drain i m = record { done = m.done; drained = i + 1 }
-mark_then (Read v) i m = record { done = m.done + 1; drained = m.drained }
-mark_then Fenced i m = record { done = m.done + 1; drained = m.drained }
-mark_then (Exchanged v) i m = record { done = m.done + 1; drained = m.done + 1 }
-
 -- the event of a slot can be next, and leaves less to do
 pub record Next (test : LitmusTest) (n : ℕ) (marks : ℕ → Mark) (events : List Event) (t i : ℕ) (s : Slot)
     (k : Kind) : Type 0 where
@@ -283,15 +249,6 @@ next_exchange test n marks events t s v g below at gives storing q needs =
           (λ i y l m. absurd (omega arith));
       less = less;
     }
-
--- the first that waits stands here
-pub record IsOldest (test : LitmusTest) (n t from to place : ℕ) (s : Slot) : Type 0 where
-  pub stands : slice_get (loop_of test n t) place ≡ Some s
-  pub storing : is_storing s.action ≡ true
-  pub after : from ≤ place
-  pub below : place < to
-  pub none_before : (i : ℕ) (z : Slot) → from ≤ i → i < place → slice_get (loop_of test n t) i ≡ Some z
-      → is_storing z.action ≡ false
 
 first_waits : (test : LitmusTest) (n : ℕ) (marks : ℕ → Mark) (t place : ℕ) (s : Slot)
     → (o : IsOldest test n t (marks t).drained (marks t).done place s)

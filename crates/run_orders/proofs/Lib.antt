@@ -3,6 +3,7 @@ pub mod Gone
 pub mod Begun
 pub mod Opens
 pub mod Going
+pub mod Chances
 pub mod Making
 pub mod LogEdges
 pub mod Logged

@@ -33,7 +33,8 @@ use Rattle.run_orders.specs.Laws.{LogsOrCycle}
 use Rattle.run_orders.specs.Logs.{log_edge, slot_location, slot_logged, slot_stores}
 use Rattle.run_orders.specs.Orders.{Draws, FromStart, FromStore, IsWanted, Spot, StoresAt, slot_in, value_at}
 use Rattle.run_orders.proofs.Begun.{location_at, one_slot, slot_action, spot, storing_access}
-use Rattle.run_orders.proofs.Gone.{deed, deeds}
+use Rattle.run_orders.specs.Course.{deeds}
+use Rattle.run_orders.proofs.Gone.{deed}
 use Rattle.run_orders.proofs.LogEdges.{Reader, before_edge, from_edge, order_of}
 use Rattle.run_orders.proofs.Making.{run_along_lem, slot_thread}
 use Rattle.run_orders.proofs.Opens.{NoStoreIn}

@@ -9,28 +9,23 @@ use Rattle.x86_subset.specs.Instr.{is_reading}
 use Rattle.x86_subset.specs.Test.{Code, LitmusTest, body_of}
 use Rattle.x86_subset.specs.declared.instr.Instr.{Instr}
 use Rattle.x86_subset.specs.declared.instr.Instr.TheVariants.{Store, Load, Fence, Exchange}
-use Rattle.tso_machine.specs.Event.{Event, Push, Read, Fenced, Exchanged}
-use Rattle.tso_machine.specs.Part.{Fills, Gives, Slot}
+use Rattle.tso_machine.specs.Event.{Event}
+use Rattle.tso_machine.specs.Part.{Fills, Slot}
 use Rattle.tso_machine.specs.Run.{IsRunOf}
 use Rattle.perp_base.proofs.Lists.{Among, among_append_left, among_append_right, each_among}
 use Rattle.run_witness.specs.Marks.{Mark, is_storing, loop_of}
-use Rattle.run_witness.specs.Order.{is_store}
 use Rattle.run_witness.proofs.Reading.{store_stores}
 use Rattle.run_witness.proofs.Slots.{has_item, loop_length}
 use Rattle.run_witness.proofs.Stands.{fresh, stands_fresh}
 use Rattle.verdict.specs.Edges.{is_access, is_barrier, is_cycle_of}
 use Rattle.run_orders.specs.Laws.{RunAlong}
-use Rattle.run_orders.specs.Orders.{IsWanted, KeepsOrder, Spot, slot_in}
-use Rattle.run_orders.proofs.Begun.{Begun, IsFree, IsOpen, begun_step, marks_then, one_slot, spot, storing_access}
-use Rattle.run_orders.proofs.Going.{AllDraw, Goes, goes_drain, goes_exchange, goes_fence, goes_push, goes_read, late_load, late_write, none_queue, not_done, own_open, reading_access}
-use Rattle.run_orders.proofs.Gone.{deed, ended_run, mark_then, queue, total, total_less}
+use Rattle.run_orders.specs.Orders.{AllDraw, IsWanted, KeepsOrder, Spot, slot_in}
+use Rattle.run_orders.specs.Course.{Begun, Gone, IsOpen, StoresNone, total}
+use Rattle.run_orders.proofs.Begun.{IsFree, one_slot, spot, storing_access}
+use Rattle.run_orders.proofs.Chances.{CanDo, Chance, chance_further}
+use Rattle.run_orders.proofs.Going.{late_load, late_write, none_queue, not_done, own_open, reading_access}
+use Rattle.run_orders.proofs.Gone.{ended_run}
 use Rattle.run_orders.proofs.Least.{Least, Loop, further, least, loop_cycle}
-
--- What the actions give.
-
-push_gives : (a : Instr) → is_store a ≡ true → Gives a Push
-push_gives (Store loc written) h = tt
-push_gives _ h = cc
 
 -- Threads of the test.
 
@@ -59,10 +54,9 @@ slot_thread test n a s h = go (cases_lt a.thread (length test.bodies))
 -- The thread of an open spot that no open one is before.
 
 chosen : (test : LitmusTest) (n : ℕ) (edge : Spot → Spot → Bool) (wanted : Spot → ℕ → Bool) (marks : ℕ → Mark)
-    (events : List Event) → KeepsOrder test n edge → AllDraw test n edge wanted
-    → Begun test n edge wanted marks events → (m : Spot) → IsOpen test n marks m → IsFree test n edge marks m
-    → Goes test n edge wanted marks events
-chosen test n edge wanted marks events order draws b m o free = go (cases_lt m.index (marks m.thread).done)
+    (events : List Event) → KeepsOrder test n edge → Begun test n edge wanted marks events → (m : Spot)
+    → IsOpen test n marks m → IsFree test n edge marks m → Chance test n edge marks
+chosen test n edge wanted marks events order b m o free = go (cases_lt m.index (marks m.thread).done)
   where
     below : m.thread < length test.bodies
     below = slot_thread test n m o.slot o.stands
@@ -78,21 +72,41 @@ chosen test n edge wanted marks events order draws b m o free = go (cases_lt m.i
         (order.storing m.thread i m.index s o.slot k at o.stands q w) (own_open test n marks m.thread i s l at q))
 
     waits : m.index < (marks m.thread).done → (is_storing o.slot.action ≡ true) ⊎ (is_storing o.slot.action ≡ false)
-        → Goes test n edge wanted marks events
+        → Chance test n edge marks
     waits l (inr q) =
         let late : (marks m.thread).done ≤ m.index =
         late_load (is_storing o.slot.action) (marks m.thread) m.index q o.late
         in
         absurd (omega arith)
     waits l (inl q) =
-        goes_drain test n edge wanted marks events b m.thread m.index o.slot below
-        (record {
-          stands = o.stands;
-          storing = q;
-          after = late_write (is_storing o.slot.action) (marks m.thread) m.index q o.late;
-          below = l;
-          none_before = λ i s g k at. none q i s g k at;
-        }) free
+        record {
+          thread = m.thread;
+          below = below;
+          can = inl (record {
+            place = m.index;
+            slot = o.slot;
+            oldest = record {
+              stands = o.stands;
+              storing = q;
+              after = late_write (is_storing o.slot.action) (marks m.thread) m.index q o.late;
+              below = l;
+              none_before = λ i s g k at. none q i s g k at;
+            };
+            free = free;
+          });
+        }
+
+    -- the next action can be done
+    act : (s : Slot) (a : Instr) → s.action ≡ a
+        → slice_get (loop_of test n m.thread) (marks m.thread).done ≡ Some s
+        → CanDo test n edge marks m.thread a → Chance test n edge marks
+    act s a e at can =
+        let P : Instr → Type 0 = λ a. CanDo test n edge marks m.thread a in
+        record {
+          thread = m.thread;
+          below = below;
+          can = inr (record { slot = s; stands = at; can = subst P (sym e) can });
+        }
 
     -- the next action is the spot's own
     own : (marks m.thread).done ≡ m.index → IsFree test n edge marks (spot m.thread (marks m.thread).done)
@@ -113,47 +127,33 @@ chosen test n edge wanted marks events order draws b m o free = go (cases_lt m.i
         (not_done test n marks m.thread (marks m.thread).done s marks_order (omega arith) at
         (reading_access s.action reads))
 
-    fence : (s : Slot) → slice_get (loop_of test n m.thread) (marks m.thread).done ≡ Some s
-        → is_access s.action ≡ false → is_barrier s.action ≡ true → Gives s.action Fenced
-        → is_storing s.action ≡ false → (marks m.thread).done ≤ m.index
+    fence : (s : Slot) → s.action ≡ Fence → slice_get (loop_of test n m.thread) (marks m.thread).done ≡ Some s
+        → (marks m.thread).done ≤ m.index
         → ((marks m.thread).done ≡ m.index) ⊎ ((marks m.thread).done ≡ m.index → ⊥)
-        → Goes test n edge wanted marks events
-    fence s at none_access bars gives quiet l (inl e) =
-        absurd (both_ways (is_access s.action) none_access
+        → Chance test n edge marks
+    fence s f at l (inl e) =
+        absurd (both_ways (is_access s.action) (ap is_access f)
         (sym (ap (λ (z : Slot). is_access z.action) (own_slot s at e)) ∙ o.access))
-    fence s at none_access bars gives quiet l (inr ne) =
-        goes_fence test n edge wanted marks events b m.thread s below at gives quiet none_access
-        (none_queue test n marks m.thread (λ i z g k q. false_from_ne_true (is_storing z.action) (λ w.
-        free (spot m.thread i)
-        (order.barred m.thread i (marks m.thread).done m.index z s o.slot k (omega arith) q at o.stands w bars o.access)
-        (own_open test n marks m.thread i z g q w))))
+    fence s f at l (inr ne) =
+        act s Fence f at (λ i z g k q. false_from_ne_true (is_storing z.action) (λ w. free (spot m.thread i)
+        (order.barred m.thread i (marks m.thread).done m.index z s o.slot k (omega arith) q at o.stands w
+        (ap is_barrier f) o.access) (own_open test n marks m.thread i z g q w)))
 
     by : (s : Slot) (a : Instr) → s.action ≡ a → slice_get (loop_of test n m.thread) (marks m.thread).done ≡ Some s
         → (marks m.thread).done ≤ m.index
         → ((marks m.thread).done ≡ m.index) ⊎ ((marks m.thread).done ≡ m.index → ⊥)
-        → Goes test n edge wanted marks events
-    by s (Store loc written) e at l c =
-        let P : Instr → Type 0 = λ a. Gives a Push in
-        goes_push test n edge wanted marks events b m.thread s below at (ap is_store e) (subst P (sym e) tt)
-        (ap is_storing e)
-    by s (Load reg loc) e at l (inl c) =
-        let P : Instr → ℕ → Type 0 = λ a v. Gives a (Read v) in
-        goes_read test n edge wanted marks events draws b m.thread s below at
-        (λ v. (let Q : Instr → Type 0 = λ a. P a v in subst Q (sym e) tt)) (ap is_storing e) (ap is_access e) (own c)
+        → Chance test n edge marks
+    by s (Store loc written) e at l c = act s (Store loc written) e at tt
+    by s (Load reg loc) e at l (inl c) = act s (Load reg loc) e at (own c)
     by s (Load reg loc) e at l (inr ne) = absurd (reads_here s at (ap is_reading e) (omega arith))
-    by s Fence e at l c =
-        let P : Instr → Type 0 = λ a. Gives a Fenced in
-        fence s at (ap is_access e) (ap is_barrier e) (subst P (sym e) tt) (ap is_storing e) l c
+    by s Fence e at l c = fence s e at l c
     by s (Exchange loc written reg) e at l (inl c) =
-        let P : Instr → ℕ → Type 0 = λ a v. Gives a (Exchanged v) in
         let w : is_storing o.slot.action ≡ true = ap (λ (z : Slot). is_storing z.action) (own_slot s at c)
         ∙ ap is_storing e in
-        goes_exchange test n edge wanted marks events draws b m.thread s below at
-        (λ v. (let Q : Instr → Type 0 = λ a. P a v in subst Q (sym e) tt)) (ap is_storing e)
-        (λ i z g k q. none w i z g (omega arith) q) (own c)
+        act s (Exchange loc written reg) e at ((λ i z g k q. none w i z g (omega arith) q), own c)
     by s (Exchange loc written reg) e at l (inr ne) = absurd (reads_here s at (ap is_reading e) (omega arith))
 
-    go : (m.index < (marks m.thread).done) ⊎ ((marks m.thread).done ≤ m.index) → Goes test n edge wanted marks events
+    go : (m.index < (marks m.thread).done) ⊎ ((marks m.thread).done ≤ m.index) → Chance test n edge marks
     go (inl l) = waits l (cases_Bool (is_storing o.slot.action))
     go (inr l) =
         let w = slice_get_within (loop_of test n m.thread) m.index o.slot o.stands in
@@ -165,47 +165,63 @@ chosen test n edge wanted marks events order draws b m o free = go (cases_lt m.i
 abbrev NoneOpen : LitmusTest → ℕ → (ℕ → Mark) → Type 0
 NoneOpen test n marks = (a : Spot) → IsOpen test n marks a → ⊥
 
+-- the thread has done all, and none of its stores waits
 abbrev IsEnded : LitmusTest → ℕ → (ℕ → Mark) → ℕ → Type 0
-IsEnded test n marks t = (marks t).done ≡ length (loop_of test n t)
+IsEnded test n marks t =
+    ((marks t).done ≡ length (loop_of test n t)) × StoresNone test n t (marks t).drained (marks t).done
 
-empty_of : (test : LitmusTest) (n : ℕ) (marks : ℕ → Mark) → NoneOpen test n marks → (t : ℕ)
-    → queue test n marks t ≡ []
-empty_of test n marks none t =
-    none_queue test n marks t (λ i s g k q. false_from_ne_true (is_storing s.action)
-    (λ w. none (spot t i) (own_open test n marks t i s g q w)))
+abbrev pub AllEnded : LitmusTest → ℕ → (ℕ → Mark) → Type 0
+AllEnded test n marks =
+    (t : ℕ) → t < length test.bodies
+    → ((marks t).done ≡ length (loop_of test n t)) × StoresNone test n t (marks t).drained (marks t).done
+
+none_stored : (test : LitmusTest) (n : ℕ) (marks : ℕ → Mark) → NoneOpen test n marks → (t : ℕ)
+    → StoresNone test n t (marks t).drained (marks t).done
+none_stored test n marks none t i s g k q =
+    false_from_ne_true (is_storing s.action) (λ w. none (spot t i) (own_open test n marks t i s g q w))
+
+-- where all is done the events are a run
+pub all_ended : (test : LitmusTest) (n : ℕ) (marks : ℕ → Mark) (events : List Event) → Gone test n marks events
+    → AllEnded test n marks → IsRunOf test n events
+all_ended test n marks events g ended =
+    ended_run test n marks events g (λ t l. (ended t l).0)
+    (λ t. none_queue test n marks t (λ i s k m q. (ended t (slot_thread test n (spot t i) s q)).1 i s k m q))
 
 rest_of : (test : LitmusTest) (n : ℕ) (edge : Spot → Spot → Bool) (wanted : Spot → ℕ → Bool) (marks : ℕ → Mark)
     (events : List Event) → Begun test n edge wanted marks events → NoneOpen test n marks → (t : ℕ)
-    → t < length test.bodies → Goes test n edge wanted marks events ⊎ IsEnded test n marks t
+    → t < length test.bodies → Chance test n edge marks ⊎ IsEnded test n marks t
 rest_of test n edge wanted marks events b none t below = go (cases_lt (marks t).done (length (loop_of test n t)))
   where
     act : (s : Slot) → slice_get (loop_of test n t) (marks t).done ≡ Some s → is_access s.action ≡ true
-        → Goes test n edge wanted marks events ⊎ IsEnded test n marks t
+        → Chance test n edge marks ⊎ IsEnded test n marks t
     act s at acc =
         absurd (none (spot t (marks t).done) (not_done test n marks t (marks t).done s (b.gone.stands.own t).order
         (omega arith) at acc))
 
     by : (s : Slot) (a : Instr) → s.action ≡ a → slice_get (loop_of test n t) (marks t).done ≡ Some s
-        → Goes test n edge wanted marks events ⊎ IsEnded test n marks t
+        → Chance test n edge marks ⊎ IsEnded test n marks t
     by s Fence e at =
-        let P : Instr → Type 0 = λ a. Gives a Fenced in
-        inl (goes_fence test n edge wanted marks events b t s below at (subst P (sym e) tt) (ap is_storing e)
-        (ap is_access e) (empty_of test n marks none t))
+        let P : Instr → Type 0 = λ a. CanDo test n edge marks t a in
+        inl (record {
+          thread = t;
+          below = below;
+          can = inr (record { slot = s; stands = at; can = subst P (sym e) (none_stored test n marks none t) });
+        })
     by s (Store loc written) e at = act s at (ap is_access e)
     by s (Load reg loc) e at = act s at (ap is_access e)
     by s (Exchange loc written reg) e at = act s at (ap is_access e)
 
     go : ((marks t).done < length (loop_of test n t)) ⊎ (length (loop_of test n t) ≤ (marks t).done)
-        → Goes test n edge wanted marks events ⊎ IsEnded test n marks t
+        → Chance test n edge marks ⊎ IsEnded test n marks t
     go (inl l) = let s = has_item (loop_of test n t) (marks t).done l in by s.item s.item.action refl s.stands
     go (inr l) =
         let w : (marks t).done ≤ length (loop_of test n t) = (b.gone.stands.own t).within in
-        inr (let e : (marks t).done ≡ length (loop_of test n t) = omega arith in e)
+        let e : (marks t).done ≡ length (loop_of test n t) = omega arith in
+        inr (e, none_stored test n marks none t)
 
 rest_to : (test : LitmusTest) (n : ℕ) (edge : Spot → Spot → Bool) (wanted : Spot → ℕ → Bool) (marks : ℕ → Mark)
     (events : List Event) → Begun test n edge wanted marks events → NoneOpen test n marks → (k : ℕ)
-    → k ≤ length test.bodies
-    → Goes test n edge wanted marks events ⊎ ((t : ℕ) → t < k → IsEnded test n marks t)
+    → k ≤ length test.bodies → Chance test n edge marks ⊎ ((t : ℕ) → t < k → IsEnded test n marks t)
 rest_to test n edge wanted marks events b none zero l = inr (λ t h. absurd (omega arith))
 rest_to test n edge wanted marks events b none (suc k) l =
     put (rest_of test n edge wanted marks events b none k (omega arith))
@@ -216,9 +232,9 @@ rest_to test n edge wanted marks events b none (suc k) l =
     last s f t h (inl e) = let P : ℕ → Type 0 = λ u. IsEnded test n marks u in subst P (sym e) s
     last s f t h (inr ne) = f t (omega arith)
 
-    put : Goes test n edge wanted marks events ⊎ IsEnded test n marks k
-        → Goes test n edge wanted marks events ⊎ ((t : ℕ) → t < k → IsEnded test n marks t)
-        → Goes test n edge wanted marks events ⊎ ((t : ℕ) → t < suc k → IsEnded test n marks t)
+    put : Chance test n edge marks ⊎ IsEnded test n marks k
+        → Chance test n edge marks ⊎ ((t : ℕ) → t < k → IsEnded test n marks t)
+        → Chance test n edge marks ⊎ ((t : ℕ) → t < suc k → IsEnded test n marks t)
     put (inl g) r = inl g
     put (inr s) (inl g) = inl g
     put (inr s) (inr f) = inr (λ t h. last s f t h (cases_eq t k))
@@ -358,7 +374,7 @@ take_none : {X : Type 0} (xs : List X) → take 0 xs ≡ []
 take_none [] = refl
 take_none (x ∷ xs) = refl
 
-begun_begins : (test : LitmusTest) (n : ℕ) (edge : Spot → Spot → Bool) (wanted : Spot → ℕ → Bool)
+pub begun_begins : (test : LitmusTest) (n : ℕ) (edge : Spot → Spot → Bool) (wanted : Spot → ℕ → Bool)
     → Begun test n edge wanted fresh []
 begun_begins test n edge wanted = record {
   gone = record {
@@ -390,8 +406,25 @@ begun_begins test n edge wanted = record {
 abbrev Made : LitmusTest → ℕ → (Spot → ℕ → Bool) → Type 0
 Made test n wanted = (run : List Event) × IsRunOf test n run × Each (IsWanted test wanted) run
 
-abbrev Closed : (Spot → Spot → Bool) → Type 0
+abbrev pub Closed : (Spot → Spot → Bool) → Type 0
 Closed edge = (cycle : List Spot) × (is_cycle_of edge cycle ≡ true)
+
+-- where a run has been begun that keeps the order: a thread can go on, all is done, or the edges have a cycle
+go_or_end : (test : LitmusTest) (n : ℕ) (edge : Spot → Spot → Bool) (wanted : Spot → ℕ → Bool) (marks : ℕ → Mark)
+    (events : List Event) → KeepsOrder test n edge → Begun test n edge wanted marks events
+    → Chance test n edge marks ⊎ (Closed edge ⊎ AllEnded test n marks)
+go_or_end test n edge wanted marks events order b = by (first_open test n edge marks)
+  where
+    end : Chance test n edge marks ⊎ ((t : ℕ) → t < length test.bodies → IsEnded test n marks t)
+        → Chance test n edge marks ⊎ (Closed edge ⊎ AllEnded test n marks)
+    end (inl c) = inl c
+    end (inr e) = inr (inr (λ t l. e t l))
+
+    by : NoneOpen test n marks ⊎ (Loop edge ⊎ First test n edge marks)
+        → Chance test n edge marks ⊎ (Closed edge ⊎ AllEnded test n marks)
+    by (inl none) = end (rest_to test n edge wanted marks events b none (length test.bodies) (omega arith))
+    by (inr (inl l)) = inr (inl (loop_cycle edge l))
+    by (inr (inr f)) = inl (chosen test n edge wanted marks events order b f.first f.still f.free)
 
 go_on : (test : LitmusTest) (n : ℕ) (edge : Spot → Spot → Bool) (wanted : Spot → ℕ → Bool) (fuel : ℕ)
     (marks : ℕ → Mark) (events : List Event) → KeepsOrder test n edge → AllDraw test n edge wanted
@@ -399,33 +432,18 @@ go_on : (test : LitmusTest) (n : ℕ) (edge : Spot → Spot → Bool) (wanted : 
     → Closed edge ⊎ Made test n wanted
 go_on test n edge wanted zero marks events order draws b h = absurd (omega arith)
 go_on test n edge wanted (suc fuel) marks events order draws b h =
-    by (λ marks events b h. go_on test n edge wanted fuel marks events order draws b h) (first_open test n edge marks)
+    by (λ marks events b h. go_on test n edge wanted fuel marks events order draws b h)
+    (go_or_end test n edge wanted marks events order b)
   where
-    next : ((marks : ℕ → Mark) (events : List Event) → Begun test n edge wanted marks events
-        → total test n marks (length test.bodies) < fuel → Closed edge ⊎ Made test n wanted)
-        → Goes test n edge wanted marks events → Closed edge ⊎ Made test n wanted
-    next rec g =
-        let l = total_less test n marks g.thread (mark_then g.kind g.index (marks g.thread)) (length test.bodies)
-        g.next.thread g.next.less in
-        rec (marks_then marks g.thread g.index g.kind) (events ++ deed g.thread g.slot g.kind ∷ [])
-        (begun_step test n edge wanted marks events g.thread g.index g.slot g.kind b g.next g.comes) (omega arith)
-
-    end : NoneOpen test n marks → ((marks : ℕ → Mark) (events : List Event) → Begun test n edge wanted marks events
-        → total test n marks (length test.bodies) < fuel → Closed edge ⊎ Made test n wanted)
-        → Goes test n edge wanted marks events ⊎ ((t : ℕ) → t < length test.bodies → IsEnded test n marks t)
-        → Closed edge ⊎ Made test n wanted
-    end none rec (inl g) = next rec g
-    end none rec (inr e) =
-        inr (events, ended_run test n marks events b.gone e (λ t. empty_of test n marks none t), b.reads)
-
     by : ((marks : ℕ → Mark) (events : List Event) → Begun test n edge wanted marks events
         → total test n marks (length test.bodies) < fuel → Closed edge ⊎ Made test n wanted)
-        → NoneOpen test n marks ⊎ (Loop edge ⊎ First test n edge marks) → Closed edge ⊎ Made test n wanted
-    by rec (inl none) =
-        end none rec (rest_to test n edge wanted marks events b none (length test.bodies) (omega arith))
-    by rec (inr (inl l)) = inl (loop_cycle edge l)
-    by rec (inr (inr f)) =
-        next rec (chosen test n edge wanted marks events order draws b f.first f.still f.free)
+        → Chance test n edge marks ⊎ (Closed edge ⊎ AllEnded test n marks) → Closed edge ⊎ Made test n wanted
+    by rec (inl c) =
+        let f = chance_further test n edge wanted marks events draws b c in
+        let l : total test n f.then (length test.bodies) < total test n marks (length test.bodies) = f.less in
+        rec f.then f.events f.begun (omega arith)
+    by rec (inr (inl l)) = inl l
+    by rec (inr (inr e)) = inr (events, all_ended test n marks events b.gone e, b.reads)
 
 pub made : (test : LitmusTest) (n : ℕ) (edge : Spot → Spot → Bool) (wanted : Spot → ℕ → Bool)
     → KeepsOrder test n edge → AllDraw test n edge wanted → Closed edge ⊎ Made test n wanted
@@ -433,24 +451,16 @@ made test n edge wanted order draws =
     go_on test n edge wanted (total test n fresh (length test.bodies) + 1) fresh [] order draws
     (begun_begins test n edge wanted) (omega arith)
 
--- where nothing can be next, in whatever order it was done, the run is whole or the edges have a cycle
+-- where no thread can go on, in whatever order it was done, all is done or the edges have a cycle
 pub stuck_ends : (test : LitmusTest) (n : ℕ) (edge : Spot → Spot → Bool) (wanted : Spot → ℕ → Bool) (marks : ℕ → Mark)
-    (events : List Event) → KeepsOrder test n edge → AllDraw test n edge wanted
-    → Begun test n edge wanted marks events → (Goes test n edge wanted marks events → ⊥)
-    → Closed edge ⊎ IsRunOf test n events
-stuck_ends test n edge wanted marks events order draws b stuck = by (first_open test n edge marks)
+    (events : List Event) → KeepsOrder test n edge → Begun test n edge wanted marks events
+    → (Chance test n edge marks → ⊥) → Closed edge ⊎ AllEnded test n marks
+stuck_ends test n edge wanted marks events order b stuck =
+    put (go_or_end test n edge wanted marks events order b)
   where
-    end : NoneOpen test n marks
-        → Goes test n edge wanted marks events ⊎ ((t : ℕ) → t < length test.bodies → IsEnded test n marks t)
-        → Closed edge ⊎ IsRunOf test n events
-    end none (inl g) = absurd (stuck g)
-    end none (inr e) = inr (ended_run test n marks events b.gone e (λ t. empty_of test n marks none t))
-
-    by : NoneOpen test n marks ⊎ (Loop edge ⊎ First test n edge marks) → Closed edge ⊎ IsRunOf test n events
-    by (inl none) = end none (rest_to test n edge wanted marks events b none (length test.bodies) (omega arith))
-    by (inr (inl l)) = inl (loop_cycle edge l)
-    by (inr (inr f)) =
-        absurd (stuck (chosen test n edge wanted marks events order draws b f.first f.still f.free))
+    put : Chance test n edge marks ⊎ (Closed edge ⊎ AllEnded test n marks) → Closed edge ⊎ AllEnded test n marks
+    put (inl c) = absurd (stuck c)
+    put (inr e) = e
 
 pub run_along_lem : RunAlong
 run_along_lem test n edge wanted order draws = put (made test n edge wanted order draws)

@@ -14,7 +14,8 @@ use Rattle.run_witness.proofs.Slots.{has_item, not_store_to, waiting_none, waiti
 use Rattle.run_witness.proofs.Stands.{mark_at, stores_there}
 use Rattle.verdict.specs.Edges.{is_access}
 use Rattle.run_orders.specs.Orders.{Spot, slot_in}
-use Rattle.run_orders.proofs.Begun.{IsOpen, spot}
+use Rattle.run_orders.specs.Course.{IsOpen}
+use Rattle.run_orders.proofs.Begun.{spot}
 use Rattle.run_orders.proofs.Gone.{deed}
 
 -- Open spots.

@@ -1,3 +1,4 @@
 pub mod Orders
+pub mod Course
 pub mod Logs
 pub mod Laws

@@ -85,6 +85,10 @@ pub record Draws (test : LitmusTest) (n : ℕ) (edge : Spot → Spot → Bool) (
   pub source : (FromStart test n edge location r × (v ≡ 0))
       ⊎ ((f : FromStore test n edge location r) × (v ≡ value_at test n location f.source f.stores))
 
+-- the edges have each reading action read what is wanted at its spot
+abbrev pub AllDraw : LitmusTest → ℕ → (Spot → Spot → Bool) → (Spot → ℕ → Bool) → Type 0
+AllDraw test n edge wanted = (r : Spot) (v : ℕ) → wanted r v ≡ true → Draws test n edge r v
+
 -- the event reads what is wanted at its spot
 abbrev pub IsWanted : LitmusTest → (Spot → ℕ → Bool) → Event → Type 0
 IsWanted test wanted e = (v w : ℕ) → value_read e ≡ Some v → wanted (spot_of test e) w ≡ true → v ≡ w

@@ -29,7 +29,7 @@ later : (tells : List (List ℕ) → Option RunEvent) (line : ℕ) (l : List ℕ
     → lacks_form_of tells l ≡ false
     → events_by tells line (l ∷ ls)
     ≡ unless_refused (number (line + 1) (position (lacks_form_of tells) ls)) (cons_option (tells (words l))
-        (filter_map (λ m. tells (words m)) ls))
+    (filter_map (λ m. tells (words m)) ls))
 later tells line l ls e =
     ap (λ o. unless_refused o (cons_option (tells (words l)) (filter_map (λ m. tells (words m)) ls)))
     (ap (number line) (first_later (lacks_form_of tells) l ls e) ∙ one_later line (position (lacks_form_of tells) ls))

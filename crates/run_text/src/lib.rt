@@ -1,11 +1,12 @@
 //! The sections of an input: where one begins, and what its lines say.
 //!
 //! `find_section` parts an input at its first section line of a heading. Its clause `is` says that what it answers is
-//! exactly `split_of` the input (`specs/Sections`), so none where no line is a section line. `events` and, of a section
-//! `%execution 1`, `execution_events` give the events that the lines of a section tell, `read_logs` one log for each thread; their clauses say that the answer is exactly
-//! `events_of` and `execution_events_of` (`specs/Events`) and `logs_of` (`specs/Logs`) of the lines, or want of memory, and so which line is the
-//! first without its form. Lines are numbered through the whole input, and lines without words are skipped. On lines of
-//! events `P007` is thread 7; a line of logs begins with the plain `P7`.
+//! exactly `split_of` the input (`specs/Sections`), so none where no line is a section line. `events` gives the events
+//! that the lines of a section tell, and `execution_events` those of a section `%execution 1`; `read_logs` gives one log
+//! for each thread. Their clauses say that the answer is exactly `events_of` and `execution_events_of` (`specs/Events`)
+//! and `logs_of` (`specs/Logs`) of the lines, or want of memory, and so which line is the first without its form. Lines
+//! are numbered through the whole input, and lines without words are skipped. On lines of events `P007` is thread 7; a
+//! line of logs begins with the plain `P7`.
 //!
 //! The laws of `specs/Laws` say that what is written is read back. `events_are_read_back`: the line of an event, as
 //! run_judge writes it, tells that event. `sections_part_inputs`: an input that has a section is its litmus part, the

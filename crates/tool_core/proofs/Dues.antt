@@ -127,9 +127,9 @@ of_unread_kind (Some k) n rest low gives = λ s e.
 
 low_by : (none read : Bool) (k : ProfileKind)
     → (if none then Some NoSuchThread else if read then None else Some NotLoaded) ≡ Some k → kind_number k ≤ 2
-low_by true read k e = let same : NoSuchThread ≡ k = cc in subst (λ (x : ProfileKind). kind_number x ≤ 2) same arith
+low_by true read k e = let same : NoSuchThread ≡ k = cc in subst (λ (x : ProfileKind). kind_number x ≤ 2) same (grind (arith))
 low_by false true k e = absurd (cc)
-low_by false false k e = let same : NotLoaded ≡ k = cc in subst (λ (x : ProfileKind). kind_number x ≤ 2) same arith
+low_by false false k e = let same : NotLoaded ≡ k = cc in subst (λ (x : ProfileKind). kind_number x ≤ 2) same (grind (arith))
 
 of_unread : (test : LitmusTest) (n : ℕ) (atoms : List Atom)
     → Gives Outcomes (option_map status_of (unread_from test n atoms))

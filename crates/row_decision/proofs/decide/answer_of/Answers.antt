@@ -1,4 +1,4 @@
-use Rattle.std.proofs.Common.{subst, []}
+use Rattle.std.proofs.Common.{subst}
 use Rattle.choice_search.specs.Answers.{IsOutcome}
 use Rattle.choice_search.specs.declared.answer.Outcome.{Outcome}
 use Rattle.row_decision.proofs.Graphs.{sides_run, tree_none}

@@ -1,14 +1,13 @@
-use Rattle.std.proofs.Common.{◌≡◌, ◌<◌, ◌≤◌, ◌+◌, ◌-◌, ◌∙◌, ℕ, List, None, Option, ap, arith, drop, get_or, length, map, subst, sym, take}
+use Rattle.std.proofs.Common.{◌≡◌, ◌<◌, ◌∙◌, ℕ, List, None, Option, ap, arith, drop, get_or, length, map, subst, sym}
 use Rattle.std.proofs.lemmas.List.{take_all}
 use Rattle.std.specs.List.{AllByRecursion as Each}
 use Rattle.verdict.specs.declared.node.Node.{Node}
-use Rattle.outcome_rows.specs.Rows.{HoldReads, location_of_read, read_of}
+use Rattle.outcome_rows.specs.Rows.{HoldReads, location_of_read}
 use Rattle.seq_conv.specs.Sequence.{site_location}
 use Rattle.verdict.specs.Edges.{site}
 use Rattle.row_decision.specs.Seen.{seen}
 use Rattle.row_decision.specs.Fronts.{register_seen}
 use Rattle.row_decision.specs.declared.front.Register.{Register}
-use Rattle.row_decision.specs.declared.reading.Reading.{Reading}
 use Rattle.row_decision.proofs.Fronted.{NoneFrom, chosen_are, chosen_is, chosen_with, each_more, first_register, front_same, front_up, holds_first, holds_rest, impossible_none, more_is, no_length, none_all, none_values, register_below, rest_fewer, rest_is, some_length, sources_are}
 use Rattle.row_decision.proofs.front.+decide_from.Goals as goal
 

@@ -1,4 +1,4 @@
-use Rattle.std.proofs.Common.{length, ◌≡◌, ◌<◌, ◌≤◌, map, drop, get_or, take, ◌++◌, ◌∷◌, []}
+use Rattle.std.proofs.Common.{length, ◌≤◌, map, drop, get_or, take, ◌++◌, ◌∷◌, []}
 use Rattle.std.specs.List.{AllByRecursion as Each}
 use Rattle.x86_subset.specs.declared.instr.Reg.TheVariants.{Eax}
 use Rattle.outcome_rows.specs.Rows.{reading_from}

@@ -1,4 +1,4 @@
-use Rattle.std.proofs.Common.{List, [], ap, map, subst, ◌∙◌}
+use Rattle.std.proofs.Common.{List, ap, map, subst, ◌∙◌}
 use Rattle.once.specs.Edges.{Reading}
 use Rattle.row_decision.specs.Seen.{seen}
 use Rattle.row_decision.specs.Fronts.{IsFrontFrom, register_seen}

@@ -1,9 +1,8 @@
-use Rattle.std.proofs.Common.{◌≡◌, ◌≤◌, ◌∙◌, ◌+◌, ◌++◌, ℕ, List, Vec, Global, ap, arith, length, map, sym, subst, get_or, true, false, take}
+use Rattle.std.proofs.Common.{◌≡◌, ◌≤◌, ◌∙◌, ◌+◌, ◌++◌, ℕ, List, Vec, Global, ap, length, map, sym, subst, get_or, take}
 use Rattle.std.proofs.lemmas.List.{take_all}
 use Rattle.seq_conv.specs.Sequence.{Site, stores_of}
 use Rattle.choice_search.specs.declared.graph.Choice.{Choice}
 use Rattle.verdict.specs.Edges.{node}
-use Rattle.once.proofs.Showing.{reads_tells}
 use Rattle.once.specs.Edges.{choices_by}
 use Rattle.row_decision.specs.Seen.{choice_seen, seen}
 use Rattle.row_decision.proofs.Adding.{choice_is, site_small, third_more, third_same, third_sites}

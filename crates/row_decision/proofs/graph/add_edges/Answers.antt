@@ -1,4 +1,4 @@
-use Rattle.std.proofs.Common.{ℕ, List, Vec, Global, map, ap, sym, ◌∙◌, true, false, arith}
+use Rattle.std.proofs.Common.{ℕ, List, Vec, Global, map, ap, ◌∙◌, true, false, arith}
 use Rattle.choice_search.specs.declared.graph.Pair.{Pair}
 use Rattle.row_decision.specs.Seen.{seen}
 use Rattle.row_decision.proofs.Adding.{leads_by, row_more, row_same}

@@ -1,4 +1,4 @@
-use Rattle.std.proofs.Common.{◌∙◌, None, ap, map, take}
+use Rattle.std.proofs.Common.{◌∙◌, None, ap, map}
 use Rattle.std.proofs.lemmas.List.{take_all}
 use Rattle.once.specs.Edges.{choices_among}
 use Rattle.row_decision.specs.Seen.{seen}

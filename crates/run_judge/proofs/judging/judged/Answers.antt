@@ -16,7 +16,7 @@ returns-in-Some c =
     let x = c.loop-i.invariant in
     let l = c.location-loc.ensures in
     wrong_here (written_with c.args.test.now c.args.values) c.args.test.now c.args.n c.loop-i.i c.location-loc.result
-        c.args.events.now no_event c.loop-i.memory
+    c.args.events.now no_event c.loop-i.memory
     c.loop-i.threads.items c.index.result.now c.in-Some.fault x.later x.shows c.loop-i-test.true
     (sym c.has_names.ensures ∙ c.if-not-has_names.false) c.index.ensures l.location l.limit
     (sym c.in-Some.is ∙ c.fault.ensures)
@@ -25,7 +25,7 @@ pub advance-requires-clause-room : goal.advance-requires-clause-room
 advance-requires-clause-room c =
     let x = c.loop-i.invariant in
     let h = room_here (written_with c.args.test.now c.args.values) c.args.test.now c.args.n c.loop-i.i
-        c.args.events.now no_event c.loop-i.memory
+    c.args.events.now no_event c.loop-i.memory
     c.loop-i.threads.items c.index_mut.result.now x.shows c.loop-i-test.true
     (sym c.has_names.ensures ∙ c.if-not-has_names.false) c.index_mut.ensures.value in
     omega arith
@@ -39,7 +39,7 @@ loop-i-preserved c =
     record {
       later =
           right_here (written_with c.args.test.now c.args.values) c.args.test.now c.args.n c.loop-i.i
-              c.location-loc.result c.args.events.now no_event
+          c.location-loc.result c.args.events.now no_event
           c.loop-i.memory c.loop-i.threads.items c.index.result.now x.later x.shows c.loop-i-test.true named
           c.index.ensures l.location l.limit
           (sym c.in-None.is ∙ c.fault.ensures);
@@ -56,7 +56,7 @@ pub returns-then-are_ended : goal.returns-then-are_ended
 returns-then-are_ended c =
     let x = c.loop-i.invariant in
     ended_here (written_with c.args.test.now c.args.values) c.args.test.now c.args.n c.loop-i.i c.args.events.now
-        c.loop-i.memory c.loop-i.threads.items true x.later
+    c.loop-i.memory c.loop-i.threads.items true x.later
     x.shows (omega arith) (omega arith) (sym c.if-are_ended.true
     ∙ (rw c.deref.ensures.value at c.are_ended.ensures))
 
@@ -64,7 +64,7 @@ pub returns : goal.returns
 returns c =
     let x = c.loop-i.invariant in
     ended_here (written_with c.args.test.now c.args.values) c.args.test.now c.args.n c.loop-i.i c.args.events.now
-        c.loop-i.memory c.loop-i.threads.items false
+    c.loop-i.memory c.loop-i.threads.items false
     x.later x.shows (omega arith) (omega arith) (sym c.if-are_ended.false
     ∙ (rw c.deref.ensures.value at c.are_ended.ensures))
 

@@ -9,7 +9,7 @@ abbrev pub invariant-loop-i : goal.invariant-loop-i
 invariant-loop-i l = record {
   later : judgement_with (written_with l.test l.values) l.test l.n (map event_of l.events)
       ≡ judgement_from (reached_by (written_with l.test l.values) l.test) l.test l.n (map event_of
-          (take l.i l.events)) (map event_of (drop l.i l.events));
+      (take l.i l.events)) (map event_of (drop l.i l.events));
   shows : Shows (written_with l.test l.values) l.test (map event_of (take l.i l.events)) l.memory l.threads.items;
   kept : All IsKept l.threads.items;
 }

@@ -14,7 +14,7 @@ returns-then-has_words c =
     let n = c.line_len-len.result in
     let is = line_at text at n c.loop-at-test.true c.line_len-len.ensures in
     no_form (event_by_form c.args.form) text (take (at + n - at)
-        (drop at text)) at n c.loop-at.line c.loop-at.events.items _ is
+    (drop at text)) at n c.loop-at.line c.loop-at.events.items _ is
     c.in_default.ensures c.if-has_words.ensures c.loop-at.invariant.left
 
 pub loop-at-preserved : goal.loop-at-preserved
@@ -34,16 +34,16 @@ loop-at-preserved c =
       left = elim c.match-event_in.branch [
         | in-Some+in_ok-push w ↦
             ap (λ (v : Vec RunEvent Global). onto_all v.items (events_from (event_by_form c.args.form) text
-                (line + 1) (at + n))) w.events-is
+            (line + 1) (at + n))) w.events-is
             ∙ ap (λ l. onto_all l (events_from (event_by_form c.args.form) text (line + 1)
-                (at + n))) w.in_ok-push.ensures.items
+            (at + n))) w.in_ok-push.ensures.items
             ∙ one_told (event_by_form c.args.form) text this at n line es w.in-Some.event _ is w.in-Some.ensures
-                c.loop-at.invariant.left
+            c.loop-at.invariant.left
         | in_default+else-has_words w ↦
             ap (λ (v : Vec RunEvent Global). onto_all v.items (events_from (event_by_form c.args.form) text
-                (line + 1) (at + n))) w.events-is
+            (line + 1) (at + n))) w.events-is
             ∙ nothing_told (event_by_form c.args.form) text this at n line es _ is w.in_default.ensures
-                w.if-has_words.ensures
+            w.if-has_words.ensures
             c.loop-at.invariant.left
       ];
     }
