@@ -19,12 +19,8 @@ pub(super) const OUTCOMES: [(&str, &str); 3] = [
     ),
 ];
 
-/// Fourteen reads that are each early or late: 16,384 states.
-const MANY: &str =
-    "X86 MANY\n{ }\n P0 | P1 | P2 | P3 ;\n MOV [a],$1 | MOV EAX,[a] | MOV EAX,[g] | MOV EAX,[m] ;\n MOV [b],$1 | MOV EBX,[b] | MOV EBX,[h] | MOV EBX,[n] ;\n MOV [c],$1 | MOV ECX,[c] | MOV ECX,[i] | ;\n MOV [d],$1 | MOV EDX,[d] | MOV EDX,[j] | ;\n MOV [e],$1 | MOV ESI,[e] | MOV ESI,[k] | ;\n MOV [f],$1 | MOV EDI,[f] | MOV EDI,[l] | ;\n MOV [g],$1 |  |  | ;\n MOV [h],$1 |  |  | ;\n MOV [i],$1 |  |  | ;\n MOV [j],$1 |  |  | ;\n MOV [k],$1 |  |  | ;\n MOV [l],$1 |  |  | ;\n MOV [m],$1 |  |  | ;\n MOV [n],$1 |  |  | ;\nexists (1:EAX=0 /\\ 1:EBX=0 /\\ 1:ECX=0 /\\ 1:EDX=0 /\\ 1:ESI=0 /\\ 1:EDI=0 /\\ 2:EAX=0 /\\ 2:EBX=0 /\\ 2:ECX=0 /\\ 2:EDX=0 /\\ 2:ESI=0 /\\ 2:EDI=0 /\\ 3:EAX=0 /\\ 3:EBX=0)\n";
-
 /// The words, a test and what stands after it, the status and its line.
-pub(super) const REFUSED_OUTCOMES: [(&str, &str, &str, u8, &str); 5] = [
+pub(super) const REFUSED_OUTCOMES: [(&str, &str, &str, u8, &str); 4] = [
     ("outcomes 1", SB, "", 2, USAGE),
     (
         "outcomes",
@@ -47,5 +43,4 @@ pub(super) const REFUSED_OUTCOMES: [(&str, &str, &str, u8, &str); 5] = [
         6,
         "perple: atom 1: kind 2 NotLoaded\n",
     ),
-    ("outcomes", MANY, "", 15, "perple: limit states 10000\n"),
 ];
