@@ -255,16 +255,15 @@ fn outcomes_are_listed(rt: HostRuntime) -> Result<(), Fail> {
         let input = with_section(alloc, text, after)?;
         assert_answer(&rt, alloc, line, &input, status, b"", err)?;
     }
-    assert_eq!(rt; ToolStatus::States.number(), 15);
-    assert_eq!(rt;
-        ToolStatus::States.line().bytes(),
-        b"perple: limit states 10000\n"
-    );
-    assert_eq!(rt; ToolStatus::Steps.number(), 16);
-    assert_eq!(rt;
-        ToolStatus::Steps.line().bytes(),
-        b"perple: limit steps 20000\n"
-    );
+    let limits = [
+        (ToolStatus::States, 15, "perple: limit states 10000\n"),
+        (ToolStatus::Steps, 16, "perple: limit steps 20000\n"),
+    ];
+    for (status, number, text) in limits {
+        let line = status.line();
+        assert_eq!(rt; status.number(), number);
+        assert_eq!(rt; line.bytes(), text.as_bytes());
+    }
     Ok(())
 }
 
