@@ -144,8 +144,8 @@ IsDue command input due = IsDueForParts command (parts_of command input) due
 
 -- of the test: only a list of outcomes stops at a limit
 abbrev pub StopsAt : Command → LitmusTest → ToolStatus → Type 0
-StopsAt Outcomes test status = StopsOutcomes test status
-StopsAt _ test status = ⊥
+StopsAt Outcomes test met = StopsOutcomes test met
+StopsAt _ test met = ⊥
 
 -- of the input, whose litmus part reads as the test
 pub record StopsOn (command : Command) (input : List ℕ) (status : ToolStatus) : Type 0 where
