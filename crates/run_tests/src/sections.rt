@@ -3,7 +3,7 @@ ghost use Rattle.std.specs.Prelude.{◌<◌, ◌^◌, length};
 
 use load_log::Logs;
 use run_judge::{RunEvent, RunKind};
-use run_text::{SectionError, events, find_section, read_logs};
+use run_text::{SectionError, events, execution_events, find_section, read_logs};
 use std::alloc::Global;
 use std::test::Fail;
 
